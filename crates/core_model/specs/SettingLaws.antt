@@ -20,7 +20,7 @@ pub record Matches (p : Phase) (r : Registers) : Type 0 where
 -- before. So no retired issue sees an unretired write.
 abbrev pub SettingsOfPicks : Type 0
 SettingsOfPicks =
-    (s : Start) (n c : ℕ) → c ≤ n - cycles_to_w + 2 →
+    (s : Start) (n c : ℕ) → c ≤ n - cycles_to_w + cycles_to_e →
     Matches (phase_at (phases s n) c) (world s (c - cycles_to_e)).registers
 
 -- The settings of n cycles decide picking in cycle c. Picking uses the last of them that begins in
@@ -32,7 +32,7 @@ pub record IsSettled (s : Start) (n c : ℕ) : Type 0 where
 -- In the cycle of each retired issue, and in each cycle up to n - 2, picking depends only on
 -- retired writes of slots and modes.
 abbrev pub UnretiredUnseen : Type 0
-UnretiredUnseen = (s : Start) (n c : ℕ) → c ≤ n - cycles_to_w + 2 → IsSettled s n c
+UnretiredUnseen = (s : Start) (n c : ℕ) → c ≤ n - cycles_to_w + cycles_to_e → IsSettled s n c
 
 -- whether a turn of the frame is thread i's
 abbrev pub is_turn_of : Turn → ℕ → Bool

@@ -20,7 +20,7 @@ pub record Environment : Type 0 where
   pub fetch : ℕ → Bool  -- whether the word at a pc may be fetched
   pub load : ℕ → ℕ → Bool  -- whether a load at an address, of a width, is allowed
   pub store : ℕ → ℕ → Bool  -- whether a store at an address, of a width, is allowed
-  pub shared : ℕ → Option ℕ  -- a register of the machine, 0x7C0 to 0x7C3, or a refusal
+  pub shared : ℕ → Option ℕ  -- a configuration register, 0x7C0 to 0x7C3, or a refusal
 
 -- the words that it reads
 pub record Contents : Type 0 where

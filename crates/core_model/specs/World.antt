@@ -42,7 +42,7 @@ pub record Start : Type 0 where
   pub registers : Registers
   pub shown : List (List ℕ)  -- the word of the thread's port in each cycle
   pub handed : List Bool  -- whether a port was handed in
-  pub unplugs : List (Option ℕ)  -- the cycle from which on it isn't there, if there is one
+  pub unplugs : List (Option ℕ)  -- the first cycle in which the port isn't there, if it is removed
   pub latches : List ℕ  -- the word in the port's latch
 
 -- the turn of a cycle: nobody's, lost by a thread that wasn't ready, or one instruction of a
@@ -58,7 +58,7 @@ pub record World : Type 0 where
   pub d_words : List ℕ
   pub registers : Registers
   pub latches : List ℕ
-  pub last : ℕ  -- the round-robin pointer: the soft thread that was picked last by donation
+  pub last : ℕ  -- the round-robin pointer: the soft thread that got a soft or an unused slot last
   pub turns : List Took  -- of the cycles so far, the newest first
 
 -- thread k

@@ -11,3 +11,6 @@ pub const CYCLES_TO_M: u64 = 3;
 
 /// Cycles from the issue to W, the last stage, where an instruction retires.
 pub const CYCLES_TO_W: u64 = 4;
+
+/// Cycles from the issue of a write to slots or modes to the first pick that uses it.
+pub const CYCLES_TO_PICK: u64 = 3;

@@ -14,7 +14,7 @@ last_word word (store ∷ stores) = last_word store.word stores
 
 -- the stores that have reached the port before cycle c: a store issued in cycle a does so in a + 3
 abbrev pub arrived_stores : ℕ → List PortStore → List PortStore
-arrived_stores c stores = filter (λ store. nat_lt (store.cycle + 3) c) stores
+arrived_stores c stores = filter (λ store. nat_lt (store.cycle + cycles_to_m) c) stores
 
 -- the first k samples, one each `every` cycles: the latch at that time, which is a first word until
 -- a store reaches it
@@ -66,7 +66,7 @@ LatchOfStores = (s : Start) (i c : ℕ) → i < length s.latches
 
 -- the delay of a store: a sample in cycle c includes the stores issued in cycle c - 4 and before
 abbrev pub StoreDelay : Type 0
-StoreDelay = (s : Start) (i a c : ℕ) → c ≤ a + 3
+StoreDelay = (s : Start) (i a c : ℕ) → c ≤ a + cycles_to_m
     → arrived_stores c (stores_before s i a) ≡ stores_before s i (c - cycles_to_m)
 
 -- in loops with sampled plants a port that is present shows its plant's response to the samples of

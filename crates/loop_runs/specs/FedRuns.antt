@@ -51,4 +51,4 @@ FallsBelow c (feed ∷ older) = (feed.at < c) × FallsBelow feed.at older
 -- a device of fp_ports keeps at most three of such feeds, once it forgets the cycles before c - 3
 abbrev pub KeepsThree : Type 0
 KeepsThree = (feeds : List Feed) (c : ℕ) → 0 < c → FallsBelow c feeds
-    → length (kept_from (c - cycles_to_m) feeds) ≤ 3
+    → length (kept_from (c - cycles_to_m) feeds) ≤ cycles_to_m

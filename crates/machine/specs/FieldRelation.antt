@@ -4,6 +4,7 @@ use Rattle.std.specs.Prelude.{◌≡◌, ℕ, zero, suc, ◌+◌, ◌<◌, ◌�
 use Rattle.std.specs.Prelude.{List, slice_index_or, slice_set, Option, None, is_some}
 use Rattle.fp_ports.specs.PluggedPorts.{Row, row_at, word_seen, absent_word}
 use Rattle.fp_ports.specs.ShownWords.{is_gone}
+use Rattle.core_model.specs.Cycles.{cycles_to_m}
 use Rattle.core_model.specs.World.{Start, port_word}
 use Rattle.pipe_model.specs.Stages.{StageRegisters, State}
 use Rattle.pipe_model.specs.Relation.{Refines, Begins, stays_in}
@@ -18,7 +19,7 @@ port_read unplug row c = if is_gone unplug c then absent_word else word_seen row
 pub record Plugged (s : Start) (c n : ℕ) (ports : List (Option Row)) : Type 0 where
   pub there : (k : ℕ) → k < 8 → is_some (row_at ports k)
       ≡ (slice_index_or s.handed k false && is_port_left (slice_index_or s.unplugs k None) c)
-  pub words : (k at : ℕ) → k < 8 → at < n → c ≤ at + 3 →
+  pub words : (k at : ℕ) → k < 8 → at < n → c ≤ at + cycles_to_m →
       port_word s at k ≡ port_read (slice_index_or s.unplugs k None) (row_at ports k) at
 
 -- the machine by its fields: the pipeline, the units with the ports, the cycles done and the cycles

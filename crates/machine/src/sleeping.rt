@@ -5,6 +5,7 @@ ghost use Rattle.std.specs.Prelude.{Option, length, slice_index_or};
 ghost use Rattle.fp_ports.specs.PluggedPorts.{Row};
 ghost use Rattle.slot_scheduler.specs.ModeWord.{is_active, mode_of};
 ghost use Rattle.timer_unit.specs.Time.{time};
+ghost use Rattle.core_model.specs.Cycles.{cycles_to_m};
 ghost use Rattle.core_model.specs.World.{Start};
 ghost use Rattle.pipe_model.specs.PipelineLaws.{empty};
 ghost use Rattle.pipeline_core.specs.Abstraction.{abstract_stages};
@@ -38,7 +39,7 @@ impl Machine {
         ensures on { self.old.at ≤ self.new.at }
         ensures end { self.new.at ≤ end }
         ensures same { self.new ≡ record self.old { at = self.new.at } }
-        ensures passed { (s : Start) (n : ℕ) (ports : List (Option Row)) → end ≤ n + 3
+        ensures passed { (s : Start) (n : ℕ) (ports : List (Option Row)) → end ≤ n + cycles_to_m
             → length ports ≡ 8 → Refines s self.old.at n self.old ports
             → PassedOver s self.old.at n self.new ports }
     {
@@ -56,7 +57,7 @@ impl Machine {
         ensures on { self.old.at ≤ self.new.at }
         ensures end { self.new.at ≤ end }
         ensures same { self.new ≡ record self.old { at = self.new.at } }
-        ensures passed { (s : Start) (n : ℕ) (ports : List (Option Row)) → end ≤ n + 3
+        ensures passed { (s : Start) (n : ℕ) (ports : List (Option Row)) → end ≤ n + cycles_to_m
             → length ports ≡ 8 → Refines s self.old.at n self.old ports
             → PassedOver s self.old.at n self.new ports }
     {

@@ -58,7 +58,7 @@ pub record State : Type 0 where
   pub i_words : List ℕ  -- of the instruction scratchpad
   pub d_words : List ℕ  -- of the data scratchpad
   pub control : Control
-  pub last : ℕ  -- the round-robin pointer: the soft thread that was picked last by donation
+  pub last : ℕ  -- the round-robin pointer: the soft thread that got a soft or an unused slot last
   pub period : ℕ  -- of a cycle, in nanoseconds
   pub size : ℕ  -- of each scratchpad, in bytes
   pub confined : List Bool
