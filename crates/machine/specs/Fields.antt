@@ -91,12 +91,17 @@ thread_line u i k =
     (slice_index_or u.control.sleeps i 0)
     else latch_text i (rows.latch_seen (rows.row_at u.ports i))
 
--- the line with number k; the lines from 66 on are those of the data scratchpad
+-- the number of the first line of the data scratchpad: ten lines of the machine and seven of each
+-- thread come before it
+abbrev pub first_of_memory : ℕ
+first_of_memory = 66
+
+-- the line with number k
 unfoldable pub dump_line : StageRegisters → State → ℕ → ℕ → List ℕ
 dump_line p u at k =
     if nat_lt k 10 then head_line p u.size u.confined u.control.registers at k
-    else if nat_lt k 66 then thread_line u ((k - 10) / 7) ((k - 10) % 7)
-    else words_seen u.d_words (k - 66)
+    else if nat_lt k first_of_memory then thread_line u ((k - 10) / 7) ((k - 10) % 7)
+    else words_seen u.d_words (k - first_of_memory)
 
 -- the lines before number k
 abbrev pub lines_before : StageRegisters → State → ℕ → ℕ → List ℕ

@@ -7,7 +7,7 @@ ghost use Rattle.fp_io.specs.Content.{AppendsFront};
 ghost use Rattle.fp_ports.specs.PluggedPorts.{rows_of};
 ghost use Rattle.core_model.specs.World.{Start};
 ghost use Rattle.machine.specs.DumpedState.{seen};
-ghost use Rattle.machine.specs.Fields.{dump_line, dump_of};
+ghost use Rattle.machine.specs.Fields.{dump_line, dump_of, first_of_memory};
 ghost use Rattle.pipeline_core.specs.Abstraction.{abstract_stages, abstract_state};
 ghost use Rattle.machine.specs.WorldRelation.{Refines};
 
@@ -62,7 +62,7 @@ impl Machine {
     /// Puts the line of a number, if it is shown.
     fn put_line<K: Sink>(&self, number: u32, ports: &Ports, out: &mut K) -> Result<(), PutFailed>
         requires eight { vec_len ports.now ≡ 8 }
-        requires number { number < 66 + self.now.units.guard.size / 32 }
+        requires number { number < first_of_memory + self.now.units.guard.size / 32 }
         ensures ok { OnOk result (Appends (K.taken out.old) (K.taken out.new)
             (dump_line (abstract_stages self.now.pipe)
             (abstract_state self.now.units (rows_of latched word_at ports.now.items)) self.now.at

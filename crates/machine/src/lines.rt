@@ -9,7 +9,7 @@ ghost use Rattle.trace_print.specs.DumpLines.{latch_text, thread_words_text};
 ghost use Rattle.machine.specs.DumpedState.{eight_from, traps_seen, timer_seen, words_seen};
 ghost use Rattle.machine.specs.Fields.{fetched_held, decoded_held, shown_word};
 ghost use Rattle.machine.specs.Fields.{executed_held, stored_held, written_held};
-ghost use Rattle.machine.specs.Fields.{head_line, thread_line, dump_line};
+ghost use Rattle.machine.specs.Fields.{head_line, thread_line, dump_line, first_of_memory};
 ghost use Rattle.timer_unit.specs.Time.{timer_of};
 ghost use Rattle.trap_unit.specs.Rows.{trap_of};
 ghost use Rattle.pipeline_core.specs.Abstraction.{abstract_stages};
@@ -274,7 +274,7 @@ impl Machine {
     #[tactic(auto, unfolding(crate::specs::Fields::dump_line))]
     pub(crate) fn line(&self, ports: &Ports, k: u32) -> ArrayString<96>
         requires eight { vec_len ports.now ≡ 8 }
-        requires number { k < 66 + self.now.units.guard.size / 32 }
+        requires number { k < first_of_memory + self.now.units.guard.size / 32 }
         ensures { result.bytes ≡ dump_line (abstract_stages self.now.pipe)
             (abstract_state self.now.units (rows_of latched word_at ports.now.items))
             self.now.at k }

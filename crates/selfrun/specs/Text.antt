@@ -33,9 +33,14 @@ tally_line k t =
 unfoldable pub own_start : ℕ → ℕ → Start
 own_start number n = start own_setup (programs number) no_ports n
 
--- the tallies of the threads after the first 100,000 cycles
+-- the number of cycles of the run
+abbrev pub own_cycles : ℕ
+own_cycles = 100000
+
+-- the tallies of the threads after these cycles
 unfoldable pub own_tallies : ℕ → List Tally
-own_tallies number = map (λ k. tally_of (events (own_start number 100000) k 100000)) the_threads
+own_tallies number =
+    map (λ k. tally_of (events (own_start number own_cycles) k own_cycles)) the_threads
 
 -- the tally of no event
 abbrev pub no_tally : Tally

@@ -13,7 +13,8 @@ ghost use Rattle.core_model.specs.World.{Start};
 ghost use Rattle.machine.specs.WorldRelation.{Refines, start_beside};
 ghost use Rattle.selfrun.specs.Drawn.{own_setup, programs};
 ghost use Rattle.selfrun.specs.Counting.{AreFew, tallies_with, tallies_of};
-ghost use Rattle.selfrun.specs.Text.{own_tallies, selfrun_text, tallies_text, tally_at, tally_line};
+ghost use Rattle.selfrun.specs.Text.{own_tallies, selfrun_text, tallies_text, tally_at};
+ghost use Rattle.selfrun.specs.Text.{tally_line, own_cycles};
 ghost use Rattle.core_model.specs.Cycles.{cycles_to_w};
 
 use crate::drawing::{drawn_image, own_setup};
@@ -49,7 +50,7 @@ fn no_ports(alloc: Global) -> Result<Ports, AllocError>
 #[inline(always)]
 #[tactic(auto, unfolding(pipe_model::specs::Stages::retired_event))]
 fn count(tallies: &mut [Tally; 8], folder: &mut LineFolder, turn: &Held<Stored>, cycle: u64)
-    requires few { AreFew tallies.old 99999 }
+    requires few { AreFew tallies.old (own_cycles - 1) }
     requires fits { StoredFits turn.now }
     requires cycle { cycle < 10 ^ 10 }
     ensures { tallies.new ≡ tallies_with tallies.old (retired_event
@@ -81,7 +82,7 @@ fn own_machine(alloc: Global, number: u32) -> Result<Machine, AllocError>
 /// they retire.
 fn tallies(machine: &mut Machine, cycles: u64, ports: &mut Ports) -> [Tally; 8]
     requires start { machine.old.at ≡ 0 }
-    requires limit { cycles ≤ 100000 }
+    requires limit { cycles ≤ own_cycles }
     requires eight { vec_len ports.old ≡ 8 }
     ensures { (s : Start) → Refines s 0 cycles machine.old
         (rows_of latched word_at ports.old.items) → result ≡ tallies_of s cycles }

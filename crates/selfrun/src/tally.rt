@@ -3,7 +3,7 @@
 ghost use Rattle.std.specs.Prelude.{◌≡◌, ◌<◌, ◌^◌};
 ghost use Rattle.rv_exec.specs.Line.{IsPrintable};
 ghost use Rattle.selfrun.specs.Counting.{with_event};
-ghost use Rattle.selfrun.specs.Text.{tally_line};
+ghost use Rattle.selfrun.specs.Text.{own_cycles, tally_line};
 
 use crate::line_fold::LineFolder;
 use arrayvec::ArrayString;
@@ -31,7 +31,7 @@ impl Tally {
         word: u32,
         effect: &Effect,
     )
-        requires few { self.old.events < 100000 }
+        requires few { self.old.events < own_cycles }
         requires cycle { cycle < 10 ^ 10 }
         requires thread { thread < 8 }
         requires printable { IsPrintable effect.now }

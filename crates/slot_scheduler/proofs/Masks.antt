@@ -30,6 +30,10 @@ pub active_bit : (w k : ℕ) →
     (threads_that is_active w / 2 ^ k % 2 == 1) ≡ (nat_lt k 8 && is_active (mode_of w k))
 active_bit w k = thread_bit is_active w k
 
+pub soft_bit : (w k : ℕ) → k < 8 →
+    (threads_that is_soft w / 2 ^ k % 2 == 1) ≡ is_soft (mode_of w k)
+soft_bit w k small = thread_bit is_soft w k ∙ grind (arith, nat_tests, small)
+
 pub soft_below : (w : ℕ) → threads_that is_soft w < 256
 unfolding threads_that
 soft_below w = mask_below (map is_soft (mode_list w)) 8 refl

@@ -128,6 +128,15 @@ impl Modes {
         (self.active >> slot) % 2 == 1
     }
 
+    /// Whether a thread is soft and active.
+    #[tactic(auto, using(crate::proofs::Masks::soft_bit))]
+    pub(crate) fn is_soft(&self, thread: u8) -> bool
+        requires { thread < 8 }
+        ensures { result ≡ is_soft (mode_of self.now thread) }
+    {
+        (self.soft >> thread) % 2 == 1
+    }
+
     /// The threads that are soft and active; thread i is bit i.
     pub(crate) fn soft(&self) -> u16
         ensures { result ≡ threads_that is_soft self.now }

@@ -60,11 +60,37 @@ impl Sched {
         self.modes.is_active(slot) && self.sleep[slot as usize] <= now
     }
 
+    // Whether a thread takes a soft slot, or a slot whose thread isn't awake, at a time in
+    // nanoseconds.
+    #[tactic(auto, unfolding(crate::specs::Picking::is_awake))]
+    fn takes_donated(&self, thread: u8, now: u64) -> bool
+        requires { thread < 8 }
+        ensures { result ≡ takes_donated self.now now thread }
+    {
+        self.modes.is_soft(thread) && self.sleep[thread as usize] <= now
+    }
+
+    // The first soft thread that is awake, in the order that begins after `last` and ends with it.
+    // Most often it is the first of that order.
+    #[tactic(auto, unfolding(crate::specs::Picking::after_last))]
+    fn next_soft(&self, now: u64, last: u8) -> Option<u8>
+        requires { last < 8 }
+        ensures first { result ≡ find (takes_donated self.now now) (after_last last) }
+        ensures thread { IfSome result (λ thread. thread < 8) }
+    {
+        let next = (last + 1) % 8;
+        if self.takes_donated(next, now) {
+            Some(next)
+        } else {
+            self.search(now, last)
+        }
+    }
+
     // The first soft thread that is awake, in the order that begins after `last` and ends with it.
     //
     // Bit j of `left` is the thread j after `first`, and each iteration clears the lowest bit. So
     // the loop visits no hard thread, and ends at once if no thread is soft.
-    fn next_soft(&self, now: u64, last: u8) -> Option<u8>
+    fn search(&self, now: u64, last: u8) -> Option<u8>
         requires { last < 8 }
         ensures first { result ≡ find (takes_donated self.now now) (after_last last) }
         ensures thread { IfSome result (λ thread. thread < 8) }

@@ -3,7 +3,7 @@ use Rattle.std.specs.Int.{trailing_zeros, w32}
 use Rattle.std.proofs.lemmas.Bool.Decides.{nat_tests}
 use Rattle.slot_scheduler.proofs.Search.{slept, threads_in, fewer, found-masked, found-none}
 use Rattle.slot_scheduler.proofs.Search.{found-lowest, found-later, found-no_more}
-use Rattle.slot_scheduler.proofs.picking.Sched.next_soft.Goals as goal
+use Rattle.slot_scheduler.proofs.picking.Sched.search.Goals as goal
 
 pub returns-then-soft-eq0-clause-first : goal.returns-then-soft-eq0-clause-first
 returns-then-soft-eq0-clause-first c =

@@ -2,7 +2,7 @@
 use Rattle.std.proofs.Common.{◌≡◌, ◌<◌, find}
 use Rattle.slot_scheduler.specs.Picking.{after_last, takes_donated}
 use Rattle.slot_scheduler.proofs.Search.{threads_in, slept}
-use Rattle.slot_scheduler.proofs.picking.Sched.next_soft.Given as goal
+use Rattle.slot_scheduler.proofs.picking.Sched.search.Given as goal
 
 abbrev pub invariant-loop-left : goal.invariant-loop-left
 invariant-loop-left l = record {
