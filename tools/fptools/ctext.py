@@ -22,6 +22,8 @@ ENDLESS = re.compile(r"(?:for\s*\(\s*;\s*;.*|while\s*\(\s*(?:1|true)\s*\).*)", r
 BEFORE_BLOCK = re.compile(r"(?<=[;{})])\s*([A-Za-z_]\w*)\s*(?=[({])")
 BLOCKS = frozenset(("if", "else", "switch", "struct", "union", "enum", "for", "while", "do"))
 LINE = re.compile(r"^[ \t]*#[ \t]*(?:line[ \t]+)?\d+(?:[ \t]+\"([^\"\n]*)\")?", re.MULTILINE)
+# A level of optimisation in the source itself, by a pragma or an attribute of gcc.
+OPTIMIZES = re.compile(r"#\s*pragma\s+GCC\s+optimize\b|_Pragma\s*\(\s*\"\s*GCC\s+optimize\b|\b(?:__optimize__|optimize)\s*\(")
 GOTO = re.compile(r"\bgoto\s+([A-Za-z_]\w*)\s*;")
 # What ends a round before its end, and what a macro that isn't known may be: a word in capitals as a statement.
 LEAVES = re.compile(r"\b(?:break|return|goto)\b")
@@ -77,6 +79,7 @@ class CText:
         self.known = frozenset(self.macros)
         self.renumbered = [found[1] for found in LINE.finditer(text)]
         self.included = INCLUDE.findall(text)
+        self.sets_level = OPTIMIZES.search(re.sub(r"/\*.*?\*/|//[^\n]*", "", text, flags=re.DOTALL)) is not None
         # A definition of a macro isn't code at its place.
         self.code = DEFINE.sub(lambda found: re.sub(r"[^\n]", " ", found[0]), self.code)
 

@@ -64,6 +64,24 @@ class Declared:
 # From which address on a line counts, or none.
 Row = tuple[int, Line | None]
 
+# Options of gcc by which it makes other loops of nested ones, at any level.
+GRAPHITE = re.compile(r"-floop-nest-optimize|-floop-parallelize-all|-fgraphite.*")
+BY_PROFILE = re.compile(r"-fprofile-use.*|-fauto-profile.*")
+
+
+def interchanges(producer: str) -> bool:
+    """Whether a compiler may have made the outer one of two nested loops the inner one, by its name and its options: gcc
+    does so from -O3 on, and one whose options aren't known may."""
+    options = [it for it in producer.split() if it.startswith("-")]
+    if not producer.startswith("GNU ") or producer.startswith("GNU AS"):
+        return False
+    if not options or any(map(GRAPHITE.fullmatch, options)):
+        return True
+    level = next((it[2:] for it in reversed(options) if it.startswith("-O")), "")
+    chosen = next((it for it in reversed(options) if it in ("-floop-interchange", "-fno-loop-interchange")), "")
+    is_by_level = level == "fast" or level.isdecimal() and int(level) >= 3
+    return chosen == "-floop-interchange" or not chosen and (is_by_level or any(map(BY_PROFILE.fullmatch, options)))
+
 
 class Program:
     """A static ELF32 executable; without a file, one that has no words, symbols and lines."""
@@ -247,6 +265,17 @@ class Program:
     @cached_property
     def _pieces(self) -> list[list[Row]]:
         """The rows of the pieces that were compiled together."""
+        return list(linked([piece for _, pieces in self._rows_of_units for piece in pieces]))
+
+    @cached_property
+    def interchanged(self) -> frozenset[Path]:
+        """The sources of units whose nested loops the compiler may have interchanged."""
+        units = (pieces for producer, pieces in self._rows_of_units if interchanges(producer))
+        return frozenset(line.file for pieces in units for piece in pieces for _, line in piece if line is not None)
+
+    @cached_property
+    def _rows_of_units(self) -> list[tuple[str, list[list[Row]]]]:
+        """The name of each unit's compiler, with its options, and the rows of the unit's pieces."""
         if self.path is None:
             return []
         from fptools.pyelf import FAULTS, DWARFError, ELFError, ELFFile
@@ -256,12 +285,11 @@ class Program:
                 elf = ELFFile(file)
                 dwarf = elf.get_dwarf_info() if elf.has_dwarf_info() else None
                 units = dwarf.iter_CUs() if dwarf else ()
-                pieces = [piece for unit in units for piece in pieces_of(_rows_of(dwarf, unit))]
+                return [(_producer_of(unit), [*pieces_of(_rows_of(dwarf, unit))]) for unit in units]
         except (ELFError, DWARFError, *FAULTS) as fault:
             # Version 0.29 of pyelftools has no form for the checksums of files that clang writes.
             text = "has line tables that pyelftools can't read; -gdwarf-4 gives others"
             raise ProgramError(f"{self.path} {text}") from fault
-        return list(linked(pieces))
 
 
 def pieces_of(rows: Iterable[Row]) -> Iterator[list[Row]]:
@@ -281,6 +309,12 @@ def linked(pieces: Collection[list[Row]]) -> Iterator[list[Row]]:
     for piece in whole:
         if piece[0][0] != 0 or not any(it[0][0] < piece[-1][0] for it in whole if it is not piece):
             yield piece
+
+
+def _producer_of(unit: Any) -> str:
+    """The name of a unit's compiler, with the options that it was given; empty where it isn't told."""
+    producer = unit.get_top_DIE().attributes.get("DW_AT_producer")
+    return "" if producer is None else str(producer.value.decode())
 
 
 def _rows_of(dwarf: Any, unit: Any) -> Iterator[Row]:

@@ -126,7 +126,7 @@ class Comments:
         if len({(comment.file, comment.line) for comment in own}) > 1:
             return "several comments `@rounds` are of it: two loops may have one head"
         comment = next(iter(own))
-        elsewhere = next((pc for pc in loop.backs if not self._is_of(pc, comment)), None)
+        elsewhere = next((pc for pc in loop.backs if not self._is_of(pc, loop, comment)), None)
         if elsewhere is not None and len(loop.backs) > 1:
             where = self._where(elsewhere)
             return (
@@ -144,6 +144,7 @@ class Comments:
             or self._not_as_in_text(loop, comment)
             or self._may_be_around(loop, comment)
             or self._without_test(loop, comment)
+            or self._interchanged(loop, comment)
         )
 
     def _folded(self, comment: Comment) -> str:
@@ -248,6 +249,21 @@ class Comments:
         why = "it may be unrolled, and this be a loop around it"
         return f"the test of the loop in {where} doesn't leave this loop: {why}"
 
+    def _interchanged(self, loop: Loop, comment: Comment) -> str:
+        """That a loop may have changed places with the one around it or inside of it, by gcc's options: then the code's
+        loop has the lines of the one, and makes the rounds of the other. Empty where none has."""
+        text, file = self._text_of(comment), comment.file
+        is_nested = any(_overlap(loop, it) for it in self.section.loops)
+        if text is not None:
+            is_nested |= bool(self.sources.loops_in(file, text) or self.sources.loops_across(file, text))
+        files = {file} | {line.file for line in self.program.all_lines if is_c(line.file)}
+        if is_nested and is_c(file) and (file in self.program.interchanged or any(map(self.sources.sets_level, files))):
+            return (
+                "gcc may have interchanged it with a loop around or inside, so that each makes the other's rounds: "
+                "-fno-loop-interchange keeps their order"
+            )
+        return ""
+
     def _copied(self, tests: list[int], file: Path, text: LoopText) -> str:
         """That no branch of a loop's text leaves the code's loop, or one does in several copies, by the branches that leave
         it: a loop without a test in its header may be unrolled then. Empty where each is there once."""
@@ -284,8 +300,9 @@ class Comments:
         function = self.program.function_at(loop.head)
         name = function.name.split(".")[0] if function else ""
         lines = (Line(comment.file, number) for number in range(text.first, text.last + 1))
-        calls = re.compile(rf"\b{re.escape(name)}\s*\(")
-        if name and any(calls.search(self.sources.code_at(line)) for line in lines):
+        # Also as `(name)(..)`, or with its parentheses in the next line.
+        calls = re.compile(rf"\b{re.escape(name)}(?:\s*\))*\s*\(")
+        if name and calls.search("".join(map(self.sources.code_at, lines))):
             helps = "-fno-optimize-sibling-calls"
             return f"{name} calls itself in the loop with `@rounds`, which may be a jump: {helps}"
         return ""
@@ -320,14 +337,14 @@ class Comments:
         loops = self.sources.loops_from(comment.file, comment.of_line)
         return loops[0] if len(loops) == 1 else None
 
-    def _is_of(self, pc: int, comment: Comment) -> bool:
+    def _is_of(self, pc: int, loop: Loop, comment: Comment) -> bool:
         """Whether a branch that goes back has a comment, or lies in the loop of the source that has it, and in no loop
-        inside of that. In assembler the comment may stand at the loop's head."""
+        inside of that. In assembler the comment may stand at the head of a loop with a single such branch."""
         if comment in self._at(pc):
             return True
         text, line = self._text_of(comment), self.program.line_of(pc)
         if text is None:
-            return len(self.sources.loops_from(comment.file, comment.of_line)) == 0 and not is_c(comment.file)
+            return not is_c(comment.file) and len(loop.backs) == 1
         return (
             line is not None
             and line.file == comment.file

@@ -121,6 +121,10 @@ class Sources:
         """Whether a C source has digraphs or trigraphs, so that its blocks aren't those of its braces."""
         return self._code(file).is_respelled
 
+    def sets_level(self, file: Path) -> bool:
+        """Whether a C source, or one in its folder that it includes, has a level of optimisation in its text."""
+        return any(self._code(it).sets_level for it in self._with_included(file))
+
     def _macros_with_loops(self, file: Path) -> frozenset[str]:
         """The macros with a loop in their text, of a source and of the sources in its folder that it includes."""
         if file not in self._hiding:
@@ -131,17 +135,18 @@ class Sources:
         """The texts of the macros of a source, and of the sources in its folder that it includes."""
         if file not in self._macros:
             macros: dict[str, str] = {}
-            ahead, seen = [file], {file}
-            while ahead:
-                code = self._code(ahead[-1])
-                folder = ahead.pop().parent
-                for name, text in code.macros.items():
+            for it in self._with_included(file):
+                for name, text in self._code(it).macros.items():
                     macros[name] = macros.get(name, "") + text
-                new = {folder / name for name in code.included} - seen
-                seen |= new
-                ahead += new
             self._macros[file] = macros
         return self._macros[file]
+
+    def _with_included(self, file: Path) -> list[Path]:
+        """A source, and the sources in its folder that it includes."""
+        found = [file]
+        for it in found:
+            found += sorted({it.parent / name for name in self._code(it).included} - {*found})
+        return found
 
     def _find(self, file: Path) -> Path | None:
         """In a folder the file with the most of the name's own folders, as `src/io/port.c` before `port.c`."""

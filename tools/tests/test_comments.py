@@ -69,6 +69,16 @@ def test_a_comment_at_the_head_above_the_branch_is_of_the_loop(tmp_path: Path) -
     assert (it.bound, it.doubt) == (7, "")
 
 
+@pytest.mark.parametrize("line", [1, 2], ids=["head", "branch"])
+def test_a_comment_in_assembler_is_of_a_single_branch(tmp_path: Path, line: int) -> None:
+    texts = ["head: nop", "  bne x1, x2, head", "  bne x3, x4, head"]
+    texts[line - 1] += " # @rounds 7"
+    lines = {0x8: 1, 0x10: 2, 0x18: 3}
+    (it,) = stated(tmp_path, "\n".join(texts) + "\n", lines, Loop(0x8, (0x10, 0x18)), name=Path("code.s"))
+    assert it.bound is None
+    assert "states no rounds: two loops may have one head" in it.doubt
+
+
 def test_loops_of_one_line_that_share_a_comment_have_no_bound(tmp_path: Path) -> None:
     lines = dict.fromkeys((0x4, 0x8, 0x10, 0x18), 1)
     for it in stated(tmp_path, "for (rows) for (columns) // @rounds 4\n", lines, INNER, OUTER):

@@ -7,6 +7,7 @@ from pathlib import Path
 import pytest
 from conftest import Tool
 from fptools.ctext import CText, LoopText, is_c
+from fptools.elf import interchanges
 from test_comments import INNER, stated
 from test_holds import SRC, Case, of
 
@@ -116,6 +117,68 @@ def test_braces_that_are_digraphs(case: Case, name: str) -> None:
     status, text = asked(case, f"{name}_begin", f"{name}_end")
     assert (status, "respelled.c has digraphs or trigraphs, which may be braces: write the braces" in text) == (2, True)
     assert case.longest(40_000, f"{name}_begin", f"{name}_end") > 1000
+
+
+@pytest.mark.parametrize("case", ["interchanged", "levelled"], indirect=True)
+def test_loops_that_the_compiler_makes_of_each_other(case: Case) -> None:
+    """The code's outer loop has the line and the comment of the one, and makes the rounds of the other."""
+    status, text = asked(case, "work_begin", "work_end")
+    assert (status, "gcc may have interchanged it with a loop around or inside" in text) == (2, True)
+    # The bound by the 18 rounds that the comment in the outer loop's line states is 7112 cycles.
+    assert case.longest(40_000) > 7112
+
+
+@of("ordered")
+def test_loops_that_keep_their_order(case: Case) -> None:
+    status, text = asked(case, "work_begin", "work_end")
+    assert (status, "goes back 18 times" in text, "goes back 25 times" in text) == (0, True, True)
+
+
+@of("heads")
+def test_loops_of_assembler_with_one_head(case: Case) -> None:
+    status, text = asked(case, "work_begin", "work_end")
+    assert (status, "states no rounds: two loops may have one head" in text) == (2, True)
+    assert case.longest(4000) > 4 * 4 * 15
+
+
+@pytest.mark.parametrize(
+    ("options", "holds"),
+    [
+        ("-march=rv32im_zicsr -g -O2", False),
+        ("-g -O3", True),
+        ("-g -Ofast", True),
+        ("-g -O3 -O2", False),
+        ("-g -Og", False),
+        ("-g -O3 -fno-loop-interchange", False),
+        ("-g -fno-loop-interchange -O3", False),
+        ("-g -O1 -floop-interchange", True),
+        ("-g -O2 -fprofile-use", True),
+        ("-g -O2 -fprofile-use=t0.gcda -fno-loop-interchange", False),
+        ("-g -O2 -floop-nest-optimize -fno-loop-interchange", True),
+        ("", True),
+    ],
+)
+def test_options_that_make_loops_of_each_other(options: str, holds: bool) -> None:
+    assert interchanges(f"GNU C17 12.2.0 {options}") == holds
+
+
+@pytest.mark.parametrize("producer", ["", "GNU AS 2.40", "Debian clang version 14.0.6"])
+def test_compilers_that_keep_the_order_of_loops(producer: str) -> None:
+    assert not interchanges(producer)
+
+
+@pytest.mark.parametrize(
+    ("text", "holds"),
+    [
+        ('#pragma GCC optimize ("O3")\n', True),
+        ('_Pragma("GCC optimize (\\"O3\\")")\n', True),
+        ('__attribute__((optimize("O3"))) int f(void);\n', True),
+        ('#define FAST __attribute__((__optimize__(3)))\n', True),
+        ("/* #pragma GCC optimize */ int optimized(void); // optimize(3)\n", False),
+    ],
+)
+def test_levels_in_a_source(text: str, holds: bool) -> None:
+    assert CText(text).sets_level == holds
 
 
 def test_a_macro_with_a_loop_that_is_found(tool: Tool, tmp_path: Path) -> None:

@@ -55,6 +55,10 @@ laid hidden hidden.c -O3 -fno-ipa-icf -I include
 laid around around.c -O3 -fno-ipa-icf -Wno-unused-value -I include
 laid endless endless.c -O3 -fno-ipa-icf -Wno-unused-value -I include
 laid respelled respelled.c -O3 -fno-ipa-icf
+laid interchanged interchanged.c -O3
+laid ordered interchanged.c -O3 -fno-loop-interchange
+laid levelled levelled.c -O2
+built heads heads.s
 # Functions of the same code, which the linker folds.
 clang --target=riscv32-unknown-elf -march=rv32im -mabi=ilp32 -O2 -gdwarf-4 -fdebug-compilation-dir=. -I "$c" -ffreestanding \
     -ffunction-sections -S -o linked.compiled.s linked.c
