@@ -24,7 +24,9 @@ BLOCKS = frozenset(("if", "else", "switch", "struct", "union", "enum", "for", "w
 LINE = re.compile(r"^[ \t]*#[ \t]*(?:line[ \t]+)?\d+(?:[ \t]+\"([^\"\n]*)\")?", re.MULTILINE)
 # A level of optimisation in the source itself, by a pragma or an attribute of gcc.
 OPTIMIZES = re.compile(r"#\s*pragma\s+GCC\s+optimize\b|_Pragma\s*\(\s*\"\s*GCC\s+optimize\b|\b(?:__optimize__|optimize)\s*\(")
-GOTO = re.compile(r"\bgoto\s+([A-Za-z_]\w*)\s*;")
+# A jump to a label, or to the address of one, which the compiler may know to be a single one.
+GOTO = re.compile(r"\bgoto\s+([A-Za-z_]\w*)\s*;|\bgoto\s*\*")
+LABEL = re.compile(r"(?:^|(?<=[;{}:)]))\s*(?!default\b)([A-Za-z_]\w*)\s*:", re.MULTILINE)
 # What ends a round before its end, and what a macro that isn't known may be: a word in capitals as a statement.
 LEAVES = re.compile(r"\b(?:break|return|goto)\b")
 AS_STATEMENT = re.compile(r"(?:[;{}:)]|\belse\b|\bdo\b|^)\s*([A-Z_][A-Z0-9_]*)\s*[(;]")
@@ -155,7 +157,7 @@ class CText:
         )
 
     def _loops_by_goto(self) -> list[LoopText | None]:
-        """The loops from a label to a `goto` behind it, in one function."""
+        """The loops from a label to a `goto` behind it, in one function: from the first label, where it leads to any."""
         found: list[LoopText | None] = []
         for back in GOTO.finditer(self.code):
             last, start = self._number(back.start()), 0
@@ -163,9 +165,10 @@ class CText:
             ends = [number for number in range(1, last) if depths[number] == 0 < depths[number - 1]]
             if ends:
                 start = self._starts[ends[-1]]
-            label = re.compile(rf"\b{back[1]}\s*:").search(self.code, start, back.start())
+            named = LABEL if back[1] is None else re.compile(rf"\b({back[1]})\s*:")
+            label = named.search(self.code, start, back.start())
             if label is not None:
-                found.append(LoopText(self._number(label.start()), last, False))
+                found.append(LoopText(self._number(label.start(1)), last, False))
         return found
 
     def _loop(self, at: int, keyword: str) -> LoopText | None:

@@ -68,7 +68,6 @@ def test_functions_that_the_linker_folds_into_one(case: Case) -> None:
     [
         "halves",
         "conditional",
-        "computed",
         "mutual",
         "unknown_macro",
         "unknown_begin",
@@ -85,10 +84,11 @@ def test_an_unrolled_loop_in_another_that_the_text_does_not_show(case: Case, nam
 
 
 @of("around")
-def test_a_macro_that_is_defined_twice(case: Case) -> None:
-    """One of its texts is a loop: it may be the one that counts."""
-    status, text = asked(case, "redefined_begin", "redefined_end")
-    assert (status, "around.c:16, has no head of its own in the code: this may be that loop" in text) == (2, True)
+@pytest.mark.parametrize(("name", "line"), [("redefined", 16), ("computed", 51)])
+def test_a_loop_around_by_a_macro_that_is_defined_twice_or_a_computed_goto(case: Case, name: str, line: int) -> None:
+    """One of the macro's texts is a loop: it may be the one that counts. The goto may lead to any label before it."""
+    status, text = asked(case, f"{name}_begin", f"{name}_end")
+    assert (status, f"around.c:{line}, has no head of its own in the code: this may be that loop" in text) == (2, True)
 
 
 @of("endless")
@@ -224,6 +224,15 @@ def test_loops_by_goto() -> None:
     first = "void f(void) {\n  goto out;\nback:\n  x++;\n  if (x) goto back;\nout: ;\n}\n"
     text = first + "void g(void) {\n  goto out;\nout: ;\n}\n"
     assert [(it.first, it.last, it.is_body_first) for it in loops_of(text)] == [(3, 5, False)]
+    text = "void f(int n) {\n  void *to = &&back;\nother:\n  n++;\nback:\n  if (n)\n    goto *to;\n}\n"
+    assert [(it.first, it.last) for it in loops_of(text)] == [(3, 7)]
+
+
+@of("computed")
+def test_a_loop_by_the_address_of_a_label(case: Case) -> None:
+    status, text = asked(case, "work_begin", "work_end")
+    assert (status, "computed.c:9, has no head of its own in the code: this may be that loop" in text) == (2, True)
+    assert case.longest(4000) > 4 * 8 * 15
 
 
 @pytest.mark.parametrize(("name", "holds"), [("a.c", True), ("a.inl", True), ("a.def", True), ("a.S", False)])
