@@ -23,6 +23,10 @@ class ProgramError(Exception):
     """The file is no executable, or a name isn't one of its symbols."""
 
 
+class NoCall(Exception):
+    """An inlined function without the line of its call, which strict DWARF 2 has no attribute for."""
+
+
 @dataclass(frozen=True, order=True)
 class Function:
     """The words of a function: from its first address up to below `end`."""
@@ -229,7 +233,7 @@ class Program:
                 return [
                     ([*_inlined_of(dwarf, it)], [*_without_code_of(dwarf, it)], [*_functions_of(it)]) for it in units
                 ]
-            except (ELFError, DWARFError, *FAULTS):
+            except (ELFError, DWARFError, NoCall, *FAULTS):
                 self.knows_functions = False  # a form of DWARF that isn't known: each address has its own line
                 return []
 
@@ -362,8 +366,10 @@ def _inlined_of(dwarf: Any, unit: Any) -> Iterator[Inlined]:
     base = Path(folder.value.decode()) if folder else Path()
     for entry in unit.iter_DIEs():
         known = entry.attributes
-        if entry.tag != "DW_TAG_inlined_subroutine" or "DW_AT_call_line" not in known:
+        if entry.tag != "DW_TAG_inlined_subroutine":
             continue
+        if not {"DW_AT_call_file", "DW_AT_call_line"} <= known.keys():
+            raise NoCall
         line = Line(
             _file_of(table.header, known["DW_AT_call_file"].value, base), known["DW_AT_call_line"].value
         )

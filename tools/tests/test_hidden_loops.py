@@ -141,6 +141,13 @@ def test_loops_of_assembler_with_one_head(case: Case) -> None:
     assert case.longest(4000) > 4 * 4 * 15
 
 
+@of("strict")
+def test_a_loop_around_the_call_of_an_inlined_function_that_no_line_tells(case: Case) -> None:
+    status, text = asked(case, "work_begin", "work_end")
+    assert (status, "isn't known by this form of DWARF: -gdwarf-4 gives another" in text) == (2, True)
+    assert case.longest(4000) > 4 * 8 * 15
+
+
 @pytest.mark.parametrize(
     ("options", "holds"),
     [

@@ -60,6 +60,7 @@ laid ordered interchanged.c -O3 -fno-loop-interchange
 laid levelled levelled.c -O2
 built heads heads.s
 laid computed computed.c -O2
+laid strict strict.c -O2 -gstrict-dwarf -gdwarf-2
 # Functions of the same code, which the linker folds.
 clang --target=riscv32-unknown-elf -march=rv32im -mabi=ilp32 -O2 -gdwarf-4 -fdebug-compilation-dir=. -I "$c" -ffreestanding \
     -ffunction-sections -S -o linked.compiled.s linked.c
