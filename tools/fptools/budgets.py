@@ -286,6 +286,7 @@ class Judge:
         thread = self.thread(asked.budget.thread)
         entries = {it.entry for it in self.setup.threads}
         entries |= {it.start for it in self.program.functions} | set(thread.handlers(asked.begin))
+        entries |= {at for it in self._code.placed if (at := self._code.jump_target(it)) is not None}
         found = [
             (part, stated)
             for part in asked.parts

@@ -9,13 +9,15 @@ from pathlib import Path
 from fptools.elf import ASSEMBLER
 
 # Comments and texts, whose characters are no code.
-NO_CODE = re.compile(r"/\*.*?\*/|//[^\n]*|\"(?:\\.|[^\"\\\n])*\"|'(?:\\.|[^'\\\n])*'", re.DOTALL)
+NO_CODE = re.compile(r"/\*.*?\*/|//(?:\\[ \t]*\n|[^\n])*|\"(?:\\.|[^\"\\\n])*\"|'(?:\\.|[^'\\\n])*'", re.DOTALL)
 KEYWORD = re.compile(r"\b(for|while|do|goto)\b")
 DEFINE = re.compile(r"^[ \t]*#[ \t]*define[ \t]+(\w+)((?:\\\n|[^\n])*)", re.MULTILINE)
 INCLUDE = re.compile(r"^[ \t]*#[ \t]*include[ \t]*\"([^\"\n]+)\"", re.MULTILINE)
 NAME = re.compile(r"\b[A-Za-z_]\w*\b")
 SPELLED = re.compile(r"<%|%>|<:|:>|%:|\?\?[<>()=/'!-]")
 """Digraphs and trigraphs: other spellings of braces, brackets and signs."""
+# A word that goes on in the next line, and names with other signs than letters, digits and `_`.
+BROKEN = re.compile(r"\S\\[ \t]*\n[^\s\\]|[\w$]*\$|\\[uU][0-9a-fA-F]{4}")
 NO_TEST = re.compile(r"for\s*\([^;]*;\s*(?:\d+\s*)?;.*|while\s*\(\s*(?:\d+|true)\s*\).*", re.DOTALL)
 ENDLESS = re.compile(r"(?:for\s*\(\s*;\s*;.*|while\s*\(\s*(?:1|true)\s*\).*)", re.DOTALL)
 # A block behind a name, or behind a name and what is in parentheses: of C itself behind the words of BLOCKS alone.
@@ -26,7 +28,29 @@ LINE = re.compile(r"^[ \t]*#[ \t]*(?:line[ \t]+)?\d+(?:[ \t]+\"([^\"\n]*)\")?", 
 OPTIMIZES = re.compile(r"#\s*pragma\s+GCC\s+optimize\b|_Pragma\s*\(\s*\"\s*GCC\s+optimize\b|\b(?:__optimize__|optimize)\s*\(")
 # A jump to a label, or to the address of one, which the compiler may know to be a single one.
 GOTO = re.compile(r"\bgoto\s+([A-Za-z_]\w*)\s*;|\bgoto\s*\*")
+GOTO_NAME = re.compile(r"\bgoto\s+([A-Za-z_]\w*)\b(?!\s*##)")
+GOTO_WORD = re.compile(r"\bgoto\b")
 LABEL = re.compile(r"(?:^|(?<=[;{}:)]))\s*(?!default\b)([A-Za-z_]\w*)\s*:", re.MULTILINE)
+# A function's name in the head of its definition, and names there that are of no function.
+FUNCTION = re.compile(r"\b([A-Za-z_]\w*)\s*\(")
+NO_FUNCTION = frozenset(
+    "for while if switch return __attribute__ __attribute __declspec _Alignas __asm__ asm __typeof__ typeof".split()
+)
+# What begins a statement, where a name, a call, or another word follows.
+WORD = re.compile(r"(?:[;{}:)]|\belse\b|\bdo\b)\s*([A-Za-z_]\w*)\b\s*(?=[(){};]|[A-Za-z_])")
+WORDS = frozenset(
+    "auto break case continue default do else for goto if inline register restrict return sizeof static extern const "
+    "volatile struct union enum switch typedef while signed unsigned void char short int long float double bool _Bool asm typeof "
+    "_Alignas _Alignof _Atomic _Static_assert static_assert _Generic _Noreturn _Pragma true false NULL "
+    "__asm__ __asm __typeof__ __extension__ __label__ __attribute__ __inline__ __inline __volatile__ __const__ __restrict "
+    "__restrict__ __auto_type __alignof__ __real__ __imag__ __signed__ __thread _Thread_local _Complex".split()
+)
+# A declaration of another name for a function, and names that are types.
+ALIAS = re.compile(r"\b(?:__)?(?:alias|ifunc|weakref)(?:__)?\b")
+TYPES = frozenset(
+    "static extern const volatile register inline struct union enum signed unsigned void char short int long float double "
+    "bool _Bool size_t uint8_t uint16_t uint32_t uint64_t int8_t int16_t int32_t int64_t __attribute__ section used".split()
+)
 # What ends a round before its end, and what a macro that isn't known may be: a word in capitals as a statement.
 LEAVES = re.compile(r"\b(?:break|return|goto)\b")
 AS_STATEMENT = re.compile(r"(?:[;{}:)]|\belse\b|\bdo\b|^)\s*([A-Z_][A-Z0-9_]*)\s*[(;]")
@@ -65,6 +89,11 @@ def behind_header(line: str) -> str:
     return ""
 
 
+def _function_of(head: str) -> str:
+    """The name of the function in the head of its definition; empty where there is none."""
+    return next((name for name in FUNCTION.findall(head) if name not in NO_FUNCTION), "")
+
+
 class CText:
     """A C source without comments and texts, as many lines as before."""
 
@@ -76,14 +105,31 @@ class CText:
         for found in DEFINE.finditer(self.code):
             self.macros[found[1]] = f"{self.macros.get(found[1], '')}{found[2]}\n"
         self.is_respelled = SPELLED.search(self.code) is not None
+        self.is_broken = BROKEN.search(DEFINE.sub("", self.code)) is not None
         # Those that have a loop, and all that are known; with those of the sources that it includes.
         self.with_loops = frozenset(name for name, it in self.macros.items() if KEYWORD.search(it))
         self.known = frozenset(self.macros)
+        self.with_gotos = self.macros_with(GOTO_WORD, self.macros)
+        self.with_leaves = frozenset(self.macros_with(LEAVES, self.macros))
         self.renumbered = [found[1] for found in LINE.finditer(text)]
         self.included = INCLUDE.findall(text)
         self.sets_level = OPTIMIZES.search(re.sub(r"/\*.*?\*/|//[^\n]*", "", text, flags=re.DOTALL)) is not None
         # A definition of a macro isn't code at its place.
         self.code = DEFINE.sub(lambda found: re.sub(r"[^\n]", " ", found[0]), self.code)
+
+    @staticmethod
+    def macros_with(word: re.Pattern[str], macros: dict[str, str]) -> dict[str, str]:
+        """The macros that have a word, or a macro that has it; each with all its texts."""
+        found = {name: text for name, text in macros.items() if word.search(text)}
+        while True:
+            more = {
+                name: f"{text} {' '.join(found[it] for it in sorted(found.keys() & {*NAME.findall(text)}))}"
+                for name, text in macros.items()
+                if name not in found and found.keys() & {*NAME.findall(text)}
+            }
+            if not more:
+                return found
+            found |= more
 
     @cached_property
     def _starts(self) -> list[int]:
@@ -124,6 +170,62 @@ class CText:
             number += 1
         return number
 
+    @cached_property
+    def _items(self) -> list[tuple[int, int, str, str]]:
+        """What stands outside of all braces: the first and last line of each item, its head, and what its braces have."""
+        items, depth, start, opened = [], 0, 0, -1
+        for found in re.finditer(r"[{};]", self.code):
+            depth = max(0, depth + (found[0] == "{") - (found[0] == "}"))
+            if found[0] == "{" and depth == 1 and opened < 0:
+                opened = found.start()
+            head = self.code[start : opened if opened >= 0 else found.start()]
+            if depth == 0 and (found[0] == ";" or found[0] == "}" and not head.rstrip().endswith("=")):
+                first = self._number(start + len(head) - len(head.lstrip()))
+                body = self.code[opened : found.start()] if opened >= 0 else ""
+                items.append((first, self._number(found.start()), head, body))
+                start, opened = found.end(), -1
+        return items
+
+    def function_around(self, number: int) -> str:
+        """The name of the function around a line; empty where there is none."""
+        own = (head for first, last, head, body in self._items if body and first <= number <= last)
+        return next((name for head in own if (name := _function_of(head))), "")
+
+    @cached_property
+    def functions(self) -> frozenset[str]:
+        """The names that it declares or defines as functions."""
+        return frozenset(name for _, _, head, _ in self._items if (name := _function_of(head.partition("=")[0])))
+
+    def words_around(self, number: int) -> list[str]:
+        """The words that begin statements of the function around a line, and are neither of C nor types by their name."""
+        bodies = [text for first, last, head, text in self._items if text and first <= number <= last]
+        words = {name for text in bodies for name in WORD.findall(text)}
+        return sorted(it for it in words if it not in WORDS and not it.endswith("_t"))
+
+    def leads_back(self, name: str) -> bool:
+        """Whether the text of a function has its name, or names by which others lead to it: functions, macros, and what
+        is declared with a value or with an alias, which may be of any."""
+        leads = {macro: {*NAME.findall(text)} for macro, text in self.macros.items()}
+        bodies: set[str] = set()
+        for _, _, head, text in self._items:
+            declared, _, value = head.partition("=")
+            function = _function_of(declared)
+            own = {function} if function and not value else {*NAME.findall(declared)} - TYPES
+            if value or text and function:
+                for it in own:
+                    leads.setdefault(it, set()).update(NAME.findall(value + text))
+            if ALIAS.search(head):
+                leads.setdefault(function, set()).add(name)
+            if text and function == name:
+                bodies |= {*NAME.findall(text)}
+        found: set[str] = set()
+        ahead = [*bodies]
+        while ahead:
+            if (it := ahead.pop()) not in found:
+                found.add(it)
+                ahead += leads.get(it, ())
+        return name in found
+
     def _number(self, at: int) -> int:
         return self.code.count("\n", 0, at) + 1
 
@@ -157,19 +259,31 @@ class CText:
         )
 
     def _loops_by_goto(self) -> list[LoopText | None]:
-        """The loops from a label to a `goto` behind it, in one function: from the first label, where it leads to any."""
-        found: list[LoopText | None] = []
-        for back in GOTO.finditer(self.code):
-            last, start = self._number(back.start()), 0
-            depths = self.depths
-            ends = [number for number in range(1, last) if depths[number] == 0 < depths[number - 1]]
-            if ends:
-                start = self._starts[ends[-1]]
-            named = LABEL if back[1] is None else re.compile(rf"\b({back[1]})\s*:")
-            label = named.search(self.code, start, back.start())
-            if label is not None:
-                found.append(LoopText(self._number(label.start(1)), last, False))
-        return found
+        """The loops from a label to a `goto` behind it, in one function, also by a macro: from the first label, where it
+        leads to any; from the function's begin, where its label isn't in the text, as one that a macro makes."""
+        gotos = [(it.start(), it[1], it[1] is None) for it in GOTO.finditer(self.code)]
+        for use in NAME.finditer(self.code) if self.with_gotos else ():
+            text = self.with_gotos.get(use[0])
+            if text is not None:
+                to = {it[1] for it in GOTO_NAME.finditer(text)}
+                are_known = len(to) == len(GOTO_WORD.findall(text))
+                gotos += [(use.start(), it, False) for it in (to if are_known else (None,))]
+        return [loop for at, label, is_any in gotos if (loop := self._back_to(at, label, is_any)) is not None]
+
+    def _back_to(self, at: int, name: str | None, is_any: bool) -> LoopText | None:
+        """The loop of a `goto` at a place to a label, to any one, or to one that isn't known."""
+        last, start, depths = self._number(at), 0, self.depths
+        ends = [number for number in range(1, last) if depths[number] == 0 < depths[number - 1]]
+        if ends:
+            start = self._starts[ends[-1]]
+        named = LABEL if name is None else re.compile(rf"\b({name})\s*:")
+        label = named.search(self.code, start, at) if name is not None or is_any else None
+        if label is not None:
+            return LoopText(self._number(label.start(1)), last, False)
+        end = self.end_of_function(last)
+        is_ahead = name is not None and named.search(self.code, at, self._starts[min(end, len(self._starts) - 1)])
+        begin = next((number for number in range(last, 0, -1) if depths[number - 1] == 0), 1)
+        return None if is_any or is_ahead else LoopText(begin, last, False)
 
     def _loop(self, at: int, keyword: str) -> LoopText | None:
         """The loop of a keyword; none for the `while` that ends a `do`, whose loop is found at its `do`."""
@@ -196,9 +310,8 @@ class CText:
     def _may_leave(self, text: str) -> bool:
         """Whether statements may leave a loop, by themselves or by a macro. One in capitals that isn't known may."""
         names = set(NAME.findall(text))
-        known = any(LEAVES.search(it) for name, it in self.macros.items() if name in names)
-        is_unknown = any(it[1] not in self.macros for it in AS_STATEMENT.finditer(text))
-        return known or is_unknown or LEAVES.search(text) is not None
+        is_unknown = any(it[1] not in self.known for it in AS_STATEMENT.finditer(text))
+        return bool(names & self.with_leaves) or is_unknown or LEAVES.search(text) is not None
 
     def _is_left_before_its_end(self, start: int, end: int) -> bool:
         """Whether a body may be left elsewhere than by an `if` that is its last statement."""

@@ -6,7 +6,7 @@ from bisect import bisect_right
 from dataclasses import dataclass, field
 from functools import cached_property
 from pathlib import Path
-from typing import Any, Collection, Iterable, Iterator, Mapping
+from typing import Any, Callable, Collection, Iterable, Iterator, Mapping
 
 from fptools.image import words_of
 
@@ -24,7 +24,8 @@ class ProgramError(Exception):
 
 
 class NoCall(Exception):
-    """An inlined function without the line of its call, which strict DWARF 2 has no attribute for."""
+    """An inlined function without the line of its call: strict DWARF 2 has no attribute for it, and -gsplit-dwarf keeps
+    it in another file."""
 
 
 @dataclass(frozen=True, order=True)
@@ -216,9 +217,9 @@ class Program:
         )
 
     @cached_property
-    def _units(self) -> list[tuple[list[Inlined], list[Declared], list[str]]]:
-        """The inlined calls, the functions without code of their own, and the names of all,
-        unit by unit."""
+    def _units(self) -> list[tuple[list[Inlined], list[Declared], list[str], list[str]]]:
+        """The inlined calls, the functions without code of their own, the names of all, and those of variables and types
+        too, unit by unit."""
         if self.path is None:
             return []
         from fptools.pyelf import FAULTS, DWARFError, ELFError, ELFFile
@@ -231,7 +232,8 @@ class Program:
                 dwarf = elf.get_dwarf_info()
                 units = list(dwarf.iter_CUs())
                 return [
-                    ([*_inlined_of(dwarf, it)], [*_without_code_of(dwarf, it)], [*_functions_of(it)]) for it in units
+                    ([*_inlined_of(dwarf, it)], [*_without_code_of(dwarf, it)], [*_functions_of(it)], [*_names_of(it)])
+                    for it in units
                 ]
             except (ELFError, DWARFError, NoCall, *FAULTS):
                 self.knows_functions = False  # a form of DWARF that isn't known: each address has its own line
@@ -239,18 +241,23 @@ class Program:
 
     @cached_property
     def _inlined(self) -> list[Inlined]:
-        return [it for inlined, _, _ in self._units for it in inlined]
+        return [it for inlined, *_ in self._units for it in inlined]
 
     @property
     def without_code(self) -> list[Declared]:
         """The functions of the sources that have neither code of their own nor are inlined. Calls of them go elsewhere:
         the compiler has folded them with others of the same code."""
-        return [it for _, declared, _ in self._units for it in declared]
+        return [it for _, declared, *_ in self._units for it in declared]
 
     @cached_property
     def function_names(self) -> frozenset[str]:
         """The names of its functions, of those that were inlined too."""
-        return frozenset(name for *_, names in self._units for name in names) | {name for _, name in self.symbols}
+        return frozenset(name for _, _, names, _ in self._units for name in names) | {name for _, name in self.symbols}
+
+    @cached_property
+    def all_names(self) -> frozenset[str]:
+        """The names of variables, types and functions of its sources, of which -g1 keeps the functions alone."""
+        return frozenset(name for *_, names in self._units for name in names)
 
     def rows_at(self, address: int) -> list[Line]:
         """The lines that a line table gives an address: that of a mark without code is among them."""
@@ -274,7 +281,16 @@ class Program:
     @cached_property
     def interchanged(self) -> frozenset[Path]:
         """The sources of units whose nested loops the compiler may have interchanged."""
-        units = (pieces for producer, pieces in self._rows_of_units if interchanges(producer))
+        return self._sources_of(interchanges)
+
+    @cached_property
+    def keeps_calls(self) -> frozenset[Path]:
+        """The sources of units whose compiler was told to make no last call a jump."""
+        return self._sources_of(lambda producer: "-fno-optimize-sibling-calls" in producer.split())
+
+    def _sources_of(self, holds: Callable[[str], bool]) -> frozenset[Path]:
+        """The sources of the units whose compiler, with its options, is such a one."""
+        units = (pieces for producer, pieces in self._rows_of_units if holds(producer))
         return frozenset(line.file for pieces in units for piece in pieces for _, line in piece if line is not None)
 
     @cached_property
@@ -358,12 +374,21 @@ def _functions_of(unit: Any) -> Iterator[str]:
             yield entry.attributes["DW_AT_name"].value.decode()
 
 
+def _names_of(unit: Any) -> Iterator[str]:
+    """All names of a unit's sources."""
+    for entry in unit.iter_DIEs():
+        if "DW_AT_name" in entry.attributes:
+            yield entry.attributes["DW_AT_name"].value.decode()
+
+
 def _inlined_of(dwarf: Any, unit: Any) -> Iterator[Inlined]:
     """The inlined functions of a unit, a piece for each range of addresses."""
     table = dwarf.line_program_for_CU(unit)
     top = unit.get_top_DIE()
     folder = top.attributes.get("DW_AT_comp_dir")
     base = Path(folder.value.decode()) if folder else Path()
+    if top.attributes.keys() & {"DW_AT_GNU_dwo_name", "DW_AT_dwo_name", "DW_AT_GNU_dwo_id"}:
+        raise NoCall
     for entry in unit.iter_DIEs():
         known = entry.attributes
         if entry.tag != "DW_TAG_inlined_subroutine":

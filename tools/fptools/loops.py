@@ -7,9 +7,11 @@ from __future__ import annotations
 
 import re
 from dataclasses import dataclass
+from itertools import permutations
 from pathlib import Path
 from typing import Collection, Iterator, Mapping
 
+from fptools import require
 from fptools.ctext import LoopText, behind_header, is_c
 from fptools.elf import Line, Program
 from fptools.rounds import rounds_in
@@ -17,6 +19,10 @@ from fptools.section import Loop, Section
 from fptools.sources import Sources
 from fptools.values import Values, jumps_of
 from fptools.words import Flow
+
+require("networkx")
+
+import networkx  # noqa: E402
 
 # A single number: an expression, as `4 * WIDTH` or `4..8`, states nothing.
 ROUNDS = re.compile(r"@rounds\b(?:\s+(\d{1,9})(?=\s*(?:\*/|$)|[,;:.)](?:\s+\D|\s*$)))?")
@@ -26,6 +32,8 @@ ASM = re.compile(r"\b(?:asm|__asm|__asm__)\b")
 CALLED = re.compile(r"\b([A-Za-z_]\w*)\s*\(|(?:^|[;{}])\s*([A-Za-z_]\w*)\s*;")
 DECIDES = re.compile(r"\b(?:if|else|switch|case|default|for|while|do|goto|continue|break|return)\b|\?|&&|\|\|")
 MOST_BOUND = 1_048_576
+OWN = ("FP_", "fp_", "__builtin_")
+"""How names begin that are no loops: those of flexpret.h, and of gcc."""
 
 
 @dataclass(frozen=True)
@@ -139,12 +147,15 @@ class Comments:
         return (
             self._folded(comment)
             or self._renumbered(comment)
+            or self._is_elsewhere(comment)
             or self._shared(loop)
             or self._goes_back_elsewhere(loop, comment)
             or self._not_as_in_text(loop, comment)
             or self._may_be_around(loop, comment)
             or self._without_test(loop, comment)
             or self._interchanged(loop, comment)
+            or self._calls_around(comment)
+            or self._unknown_word(comment)
         )
 
     def _folded(self, comment: Comment) -> str:
@@ -170,7 +181,16 @@ class Comments:
             return f"by a `#line` the lines of {comment.file.name} aren't those of its text"
         if is_c(comment.file) and self.sources.is_respelled(comment.file):
             return f"{comment.file.name} has digraphs or trigraphs, which may be braces: write the braces"
+        if is_c(comment.file) and self.sources.is_broken(comment.file):
+            return f"{comment.file.name} has a word that goes on in the next line, or a name with `$` or `\\u`"
         return ""
+
+    def _is_elsewhere(self, comment: Comment) -> str:
+        """That a comment in C is in no end of one loop alone, so that nothing tells which loop it is of; else empty."""
+        if not is_c(comment.file) or self._text_of(comment) is not None:
+            return ""
+        where = f"{comment.file.name}:{comment.line}"
+        return f"`@rounds` in {where} isn't in the first or last line of one loop alone, or right above it"
 
     def _shared(self, loop: Loop) -> str:
         """Whether a loop has the lines of several functions, which a linker folded; empty where it hasn't."""
@@ -227,7 +247,7 @@ class Comments:
         for at, it in sorted(around, key=lambda pair: (pair[0], pair[1].first)):
             own = (line for line in lines if line.file == at)
             has_head = any(self.sources.innermost(at, line.number) == it for line in own)
-            is_inside = loop.head != self.section.start and self._begins_in(at, it)
+            is_inside = not self.section.is_function and loop.head != self.section.start and self._begins_in(at, it)
             if not has_head and not is_inside:
                 where = f"the loop around, in {at.name}:{it.first}"
                 return f"{where}, has no head of its own in the code: this may be that loop"
@@ -242,12 +262,28 @@ class Comments:
         tests = [pc for pc in loop.exits if self._word_flow(pc) is Flow.BRANCH]
         if not text.has_test:
             return self._copied(tests, comment.file, text)
-        lines = (line for pc in tests for line in self.program.lines_of(pc))
-        if any(line.file == comment.file and self._is_in_header(line, text) for line in lines):
-            return ""
+        file, lines_of = comment.file, self.program.lines_of
+        own = [pc for pc in tests if any(it.file == file and self._is_in_header(it, text) for it in lines_of(pc))]
+        if own:
+            return self._repeated(loop, own)
         where = f"{comment.file.name}:{text.header[0]}"
         why = "it may be unrolled, and this be a loop around it"
         return f"the test of the loop in {where} doesn't leave this loop: {why}"
+
+    def _repeated(self, loop: Loop, tests: list[int]) -> str:
+        """That a round of the code's loop has a test of a header twice, with other lines between, by the branches of the
+        header that leave it: the loop with the comment is unrolled then, and this may be one around it that the text
+        doesn't show. Empty where no round has."""
+        round_of = networkx.DiGraph(self.section.graph.subgraph(loop.body))
+        round_of.remove_edges_from([(pc, to) for pc, to in round_of.edges if to == loop.head])
+        places = {pc: [(it.file, it.number, it.column) for it in self.program.lines_of(pc)] for pc in tests}
+        for first, again in permutations(tests, 2):
+            if places[first] == places[again]:
+                between = networkx.descendants(round_of, first) & networkx.ancestors(round_of, again)
+                if any(self.program.line_of(pc) not in (None, self.program.line_of(first)) for pc in between):
+                    why = "it may be unrolled, and this be a loop around it"
+                    return f"several copies of the test in {self.program.line_of(first)} leave this loop: {why}"
+        return ""
 
     def _interchanged(self, loop: Loop, comment: Comment) -> str:
         """That a loop may have changed places with the one around it or inside of it, by gcc's options: then the code's
@@ -298,14 +334,36 @@ class Comments:
     def _calls_itself(self, loop: Loop, comment: Comment, text: LoopText) -> str:
         """That a function calls itself in a loop of the source, maybe by a jump; empty where it doesn't."""
         function = self.program.function_at(loop.head)
-        name = function.name.split(".")[0] if function else ""
+        names = {function.name.split(".")[0]} if function else set()
+        names |= self.sources.names_of_function(comment.file, text.first)
         lines = (Line(comment.file, number) for number in range(text.first, text.last + 1))
         # Also as `(name)(..)`, or with its parentheses in the next line.
-        calls = re.compile(rf"\b{re.escape(name)}(?:\s*\))*\s*\(")
-        if name and calls.search("".join(map(self.sources.code_at, lines))):
-            helps = "-fno-optimize-sibling-calls"
-            return f"{name} calls itself in the loop with `@rounds`, which may be a jump: {helps}"
+        code, helps = "".join(map(self.sources.code_at, lines)), "-fno-optimize-sibling-calls"
+        for name in sorted(names):
+            if re.search(rf"\b{re.escape(name)}(?:\s*\))*\s*\(", code):
+                return f"{name} calls itself in the loop with `@rounds`, which may be a jump: {helps}"
         return ""
+
+    def _unknown_word(self, comment: Comment) -> str:
+        """A word of a loop's function that may be a macro with a loop, or a part of one, as its text isn't found; or that
+        the loop is of a piece of a function, which a loop may include. Empty where there is none."""
+        text, file = self._text_of(comment), comment.file
+        if text is None:
+            return ""
+        if self.sources.is_of_piece(file, text.first):
+            return f"the loop in {file.name}:{text.first} is of no function there: it may be included in a loop"
+        known = self.program.all_names | self.program.function_names | self.sources.macros_of(file).keys()
+        words = self.sources.words_of_function(file, text.first) if self.program.has_functions else []
+        found = next((it for it in words if it not in known and not it.startswith(OWN)), None)
+        return f"{found} may be a macro with a loop around: its text isn't found" if found else ""
+
+    def _calls_around(self, comment: Comment) -> str:
+        """That the function of a loop in C may call itself around the loop, by a jump; empty where it doesn't, or where the
+        compiler keeps calls."""
+        file, text = comment.file, self._text_of(comment)
+        if text is None or file in self.program.keeps_calls or not self.sources.leads_back(file, text.first):
+            return ""
+        return "its function may call itself around the loop, by a jump: -fno-optimize-sibling-calls keeps calls"
 
     def is_body_first(self, loop: Loop, comment: Comment) -> bool:
         """Whether the source has the body before the test. If it may leave the loop before the end of the body, a

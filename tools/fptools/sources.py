@@ -5,8 +5,8 @@ from itertools import dropwhile
 from pathlib import Path
 from typing import Collection
 
-from fptools.ctext import KEYWORD, NAME, CText, LoopText, is_c
-from fptools.elf import Line
+from fptools.ctext import GOTO_WORD, KEYWORD, LEAVES, NAME, CText, LoopText, is_c
+from fptools.elf import ASSEMBLER, Line
 
 
 class Sources:
@@ -39,6 +39,25 @@ class Sources:
         depths = self._code(file).depths
         between = depths[first:last] if last < len(depths) else [0]
         return any(between) and all(dropwhile(lambda depth: depth == 0, between))
+
+    def names_of_function(self, file: Path, number: int) -> set[str]:
+        """The name of the function of a C source around a line."""
+        name = self._code(file).function_around(number)
+        return {name} if name else set()
+
+    def leads_back(self, file: Path, number: int) -> bool:
+        """Whether the function of a C source around a line may call itself, also by others of the source."""
+        return self._code(file).leads_back(self._code(file).function_around(number))
+
+    def words_of_function(self, file: Path, number: int) -> list[str]:
+        """The words of the function of a C source around a line that may be macros: with no other place in C where they
+        stand than that of a statement, a type or a function. Those that the source names as functions are left out."""
+        named = {name for it in self._with_included(file) for name in self._code(it).functions}
+        return [it for it in self._code(file).words_around(number) if it not in named]
+
+    def is_of_piece(self, file: Path, number: int) -> bool:
+        """Whether a line is outside of all functions, in a source that others include."""
+        return file.suffix not in (".c", *ASSEMBLER) and self._code(file).depths[number - 1] == 0
 
     def loops_of_function(self, line: Line) -> list[LoopText]:
         """The loops of the function of a C source that begins in a line."""
@@ -107,7 +126,10 @@ class Sources:
         """The loops of a C source, with those that macros of the sources that it includes make."""
         code = self._code(file)
         if file not in self._hiding:
-            code.with_loops, code.known = self._macros_with_loops(file), frozenset(self.macros_of(file))
+            macros = self.macros_of(file)
+            code.with_loops, code.known = self._macros_with_loops(file), frozenset(macros)
+            code.with_gotos = code.macros_with(GOTO_WORD, macros)
+            code.with_leaves = frozenset(code.macros_with(LEAVES, macros))
         return code.loops
 
     def is_renumbered(self, file: Path, others: Collection[Path]) -> bool:
@@ -120,6 +142,10 @@ class Sources:
     def is_respelled(self, file: Path) -> bool:
         """Whether a C source has digraphs or trigraphs, so that its blocks aren't those of its braces."""
         return self._code(file).is_respelled
+
+    def is_broken(self, file: Path) -> bool:
+        """Whether a C source has words that go on in the next line, or names that aren't of letters, digits and `_`."""
+        return self._code(file).is_broken
 
     def sets_level(self, file: Path) -> bool:
         """Whether a C source, or one in its folder that it includes, has a level of optimisation in its text."""

@@ -8,6 +8,7 @@ import pytest
 from conftest import Tool
 from fptools.ctext import CText, LoopText, is_c
 from fptools.elf import interchanges
+from fptools.sources import Sources
 from test_comments import INNER, stated
 from test_holds import SRC, Case, of
 
@@ -285,3 +286,80 @@ def test_lines_of_another_file_by_a_line_directive(tmp_path: Path) -> None:
 def test_a_body_in_the_line_of_the_header(tmp_path: Path, body: str, says: str) -> None:
     (it,) = stated(tmp_path, f"for (i = f(x); i < n; i++) {body} /* @rounds 4 */\n", {0x8: 1, 0x10: 1}, INNER)
     assert (it.bound, it.doubt) == (None if says else 4, says)
+
+
+@of("macros")
+@pytest.mark.parametrize(
+    ("name", "says"),
+    [
+        ("by_macro", "macros.c:12, has no head of its own in the code: this may be that loop"),
+        ("by_far_macro", "RETRY may be a macro with a loop around: its text isn't found"),
+        ("by_far_label", "macros.c:35, has no head of its own in the code: this may be that loop"),
+        ("by_far_halves", "REPEAT may be a macro with a loop around: its text isn't found"),
+        ("by_call", "its function may call itself around the loop, by a jump: -fno-optimize-sibling-calls keeps calls"),
+        ("in_header", "`@rounds` in macros.c:75 isn't in the first or last line of one loop alone, or right above it"),
+    ],
+)
+def test_an_unrolled_loop_in_another_by_macros_or_a_jump(case: Case, name: str, says: str) -> None:
+    status, text = asked(case, f"{name}_begin", f"{name}_end")
+    assert (status, says in text) == (2, True)
+    assert case.longest(40_000, f"{name}_begin", f"{name}_end") > 250
+
+
+@of("split")
+def test_inlined_functions_that_another_file_tells(case: Case) -> None:
+    status, text = asked(case, "work_begin", "work_end")
+    assert (status, "isn't known by this form of DWARF: -gdwarf-4 gives another" in text) == (2, True)
+    assert case.longest(4000) > 4 * 8 * 15
+
+
+def test_a_macro_with_a_macro_that_leaves_a_loop(tmp_path: Path) -> None:
+    text = "#define STOP break\n#define STOP_IF(x) if (x) STOP\n"
+    loop = "do { stop_if(a); s++; } while (b);\n"
+    assert [it.is_left_inside for it in loops_of(text + loop.replace("stop_if", "STOP_IF"))] == [True]
+    (tmp_path / "stop.h").write_text("#define stop_if(x) if (x) break\n")
+    (tmp_path / "code.c").write_text('#include "stop.h"\n' + loop)
+    (it,) = Sources(tmp_path).loops_from(Path("code.c"), 2)
+    assert it.is_left_inside
+
+
+@pytest.mark.parametrize(
+    ("macros", "loops"),
+    [
+        ("#define BACK goto back\n", [(3, 6)]),
+        ("#define BACK goto out\n", []),
+        ("#define BACK goto back_##x\n", [(2, 6)]),
+        ("#define BACK if (x) goto none\n", [(2, 6)]),
+    ],
+)
+def test_loops_by_a_macro_with_a_goto(macros: str, loops: list[tuple[int, int]]) -> None:
+    """From its label, or from the function's begin where no label is known."""
+    text = f"{macros}void f(void) {{\nback:\n  x++;\n  if (x)\n    BACK;\nout: ;\n}}\n"
+    assert [(it.first, it.last) for it in loops_of(text) if it.first != 6] == loops
+
+
+@pytest.mark.parametrize(
+    ("text", "holds"),
+    [("go\\\nto back;\n", True), ("a$b: ;\n", True), ("#define A b;\\\nc\nint x = 1 + \\\n2;\n", False)],
+)
+def test_words_over_two_lines(text: str, holds: bool) -> None:
+    assert CText(text).is_broken == holds
+
+
+def test_a_comment_that_goes_on_in_the_next_line() -> None:
+    assert loops_of("void f(void) {\n  // a \\\n  for (;;)\n  x();\n}\n") == []
+
+
+@pytest.mark.parametrize(
+    ("text", "holds"),
+    [
+        ("void f(int n) { g(n); f(n - 1); }\n", True),
+        ("void f(int n);\nvoid g(int n) { f(n - 1); }\nvoid f(int n) { g(n); }\n", True),
+        ("void f(int n);\nvoid (*const p)(int) = f;\nvoid f(int n) { p(n - 1); }\n", True),
+        ('void g(int n) __attribute__((alias("f")));\nvoid f(int n) { g(n - 1); }\n', True),
+        ("#define AGAIN f\nvoid f(int n) { AGAIN(n - 1); }\n", True),
+        ("void g(int n) { h(n); }\nvoid f(int n) { g(n); }\nvoid h(int n) { n++; }\n", False),
+    ],
+)
+def test_functions_that_lead_back_to_themselves(text: str, holds: bool) -> None:
+    assert CText(text).leads_back("f") == holds

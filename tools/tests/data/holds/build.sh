@@ -54,6 +54,7 @@ built marked marked.c -Os
 laid hidden hidden.c -O3 -fno-ipa-icf -I include
 laid around around.c -O3 -fno-ipa-icf -Wno-unused-value -I include
 laid endless endless.c -O3 -fno-ipa-icf -Wno-unused-value -I include
+laid macros macros.c -O2 -fno-ipa-icf -fno-loop-interchange -I include
 laid respelled respelled.c -O3 -fno-ipa-icf
 laid interchanged interchanged.c -O3
 laid ordered interchanged.c -O3 -fno-loop-interchange
@@ -61,6 +62,8 @@ laid levelled levelled.c -O2
 built heads heads.s
 laid computed computed.c -O2
 laid strict strict.c -O2 -gstrict-dwarf -gdwarf-2
+laid split strict.c -O2 -gsplit-dwarf -gdwarf-4
+rm -f ./*.dwo
 # Functions of the same code, which the linker folds.
 clang --target=riscv32-unknown-elf -march=rv32im -mabi=ilp32 -O2 -gdwarf-4 -fdebug-compilation-dir=. -I "$c" -ffreestanding \
     -ffunction-sections -S -o linked.compiled.s linked.c
