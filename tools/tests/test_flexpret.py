@@ -130,8 +130,10 @@ def either(tmp_path: Path, request: pytest.FixtureRequest) -> Checkout:
 def test_a_first_build_says_how_long_it_takes_and_which_crates_are_left(either: Checkout) -> None:
     ran = either.run(*either.words, given="in\n")
     first, *rest = ran.stderr.splitlines()
+    # Where there is a second processor, it gets jobs of the crates of the longest chain.
+    estimate = "2 minutes" if len(os.sched_getaffinity(0)) < 2 else "1 minute"
     assert first == (
-        f"{either.script}: the program isn't built yet: 4 crates are proved first, in about 2 minutes;"
+        f"{either.script}: the program isn't built yet: 4 crates are proved first, in about {estimate};"
         " for an answer now: --unproved, or python3 -m model"
     )
     assert rest[0].startswith(f"{either.script}: 0 of 4 crates proved; now ")
