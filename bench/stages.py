@@ -54,7 +54,7 @@ class Part(enum.StrEnum):
 
 
 RULES: Sequence[tuple[Part, str]] = (
-    (Part.LINES, r'^trace_print::|^fp_io::|::Machine::set_line'),
+    (Part.LINES, r'^trace_print::|^fp_io::|::Machine::set_(own_)?line'),
     (Part.STEP, r'^pipeline_core::writeback::retire'),
     (Part.WRITE_BACK, r'^pipeline_core::writeback::'),
     (Part.LATE, r'^pipeline_core::memory_stage::late_effect'),
@@ -69,7 +69,7 @@ RULES: Sequence[tuple[Part, str]] = (
     (Part.EXECUTE, r'^(pipeline_core::execute|hart_exec)::'),
     (Part.FETCH, r'^pipeline_core::fetch::'),
     (Part.PICK, r'^slot_scheduler::picking::|::Clock::now'),
-    (Part.STEP, r'^pipeline_core::pipe::'),
+    (Part.STEP, r'^pipeline_core::(pipe|stages|stage_register)::'),
     (Part.LOOP, r'^machine::(state::Machine::(?!load|dump)|sleeping::)'),
 )
 """The part of an instruction is that of the first rule whose pattern is in the name of a function around it. So a part stands

@@ -194,7 +194,7 @@ fn execute_some<const RARE: bool, const LOOP: u8>(
 /// `LOOP` has no effect on a result. Each number makes a separate copy of the code. The compiler
 /// inlines a copy that has one caller, so each loop over cycles has a number that no other has.
 /// These are taken: 0 by a single cycle of the pipeline, 1 by a run of the machine, 2 by the
-/// machine's own run, and 3 by a run of one thread.
+/// machine's own run, 3 by a run of one thread, and 4 by the last cycle of a run of the machine.
 pub fn execute_frequent<const LOOP: u8>(
     hart: &mut Hart<'_>,
     at: PcWord,

@@ -12,3 +12,4 @@ pub mod Retiring
 pub mod SleepLemmas
 pub mod AdvanceLemmas
 mod LineLemmas
+pub mod OnResults

@@ -11,18 +11,25 @@ use Rattle.fp_ports.specs.PluggedPorts.{Row, row_at}
 use Rattle.rv_exec.specs.declared.outcome.Event.{Event}
 use Rattle.trace_print.specs.Text.{line_text, text}
 use Rattle.core_model.specs.World.{Start, recent, world, events}
-use Rattle.pipe_model.specs.Stages.{Ticked}
+use Rattle.pipe_model.specs.Stages.{StageRegisters, Ticked, step}
+use Rattle.pipe_model.proofs.Keeping.{keeps}
 use Rattle.pipe_model.specs.Relation.{Begins, PortsRefine, Refines as PipelineRefines, RefinesNext}
 use Rattle.pipe_model.specs.Relation.{event_in, turn_at, of_thread, port_words, stays_in}
 use Rattle.pipe_model.specs.PipelineLaws.{EventsGrow}
-use Rattle.pipeline_core.specs.Abstraction.{abstract_stages, abstract_state, abstract_ticked}
-use Rattle.machine.specs.Advancing.{Advanced}
+use Rattle.pipeline_core.specs.Abstraction.{abstract_stages, abstract_state, registers_in}
+use Rattle.pipeline_core.specs.Abstraction.{ticked_with}
+use Rattle.pipe_model.specs.declared.stage_registers.Held.{Held}
+use Rattle.pipe_model.specs.declared.stage_registers.Held.TheVariants.{Issue}
+use Rattle.pipe_model.specs.declared.stage_registers.Written.{Written}
+use Rattle.pipeline_core.specs.declared.pipe.Pipe.{Pipe}
+use Rattle.pipeline_core.specs.declared.stages.Stages.{Stages}
+use Rattle.machine.specs.Advancing.{Advanced, Runs}
 use Rattle.machine.specs.FieldRelation.{FieldsRefine, ports_left_in}
 use Rattle.machine.specs.FieldLaws.{Unplugged, with_ports_left}
 use Rattle.machine.proofs.PortLemmas.{unplugs, goes_on, kept-row}
 use Rattle.machine.specs.declared.state.Machine.{Machine}
-use Rattle.machine.specs.WorldRelation.{Refines, IsLeft, AreLeft, Ticks}
-use Rattle.machine.specs.WorldRelation.{AppendsBeyond, HasRun, Stopped}
+use Rattle.machine.specs.WorldRelation.{Refines, RefinesWith, IsLeft, AreLeft, TicksWith}
+use Rattle.machine.specs.WorldRelation.{AppendsBeyond, HasRun, HasRunWith, Stopped}
 use Rattle.fp_io.proofs.Fronts.{appends_nothing, appends_more, appends_front, front_after}
 
 left_words : (before after : Option Row) (stays : Bool) →
@@ -52,31 +59,32 @@ left_all ports k below = go (row_at ports k)
     go (Some r) = refl
 
 -- a cycle, with the ports that are left
-pub ticks : (s : Start) (n : ℕ) (m after : Machine)
+pub ticks : (s : Start) (n : ℕ) (p q : StageRegisters) (m after : Machine)
     (rows between new : List (Option Row)) (event : Option Event) → length rows ≡ 8 →
-    between ≡ ports_left_in m.unplugs m.at rows 8 → m.at < n + 3 → Refines s m.at n m rows →
+    between ≡ ports_left_in m.unplugs m.at rows 8 → m.at < n + 3 → RefinesWith s m.at n p m rows →
     (Begins s → PortsRefine s m.at between →
-    PipelineRefines s m.at (abstract_stages m.pipe) (abstract_state m.units between) →
-    RefinesNext s m.at between (abstract_ticked after.pipe after.units new event)) →
-    after.at ≡ m.at + 1 → after.unplugs ≡ m.unplugs → Ticks s m.at n rows after new event
-ticks s n m after rows between new event eight is within st keeps at plan =
-    let t : Ticked = abstract_ticked after.pipe after.units new event in
-    let left : Unplugged s m.at (abstract_stages m.pipe)
+    PipelineRefines s m.at p (abstract_state m.units between) →
+    RefinesNext s m.at between (ticked_with q after.units new event)) →
+    after.at ≡ m.at + 1 → after.unplugs ≡ m.unplugs → TicksWith s m.at n rows q after new event
+ticks s n p q m after rows between new event eight is within st preserves at plan =
+    let t : Ticked = ticked_with q after.units new event in
+    let left : Unplugged s m.at p
     (with_ports_left (abstract_state m.units rows) m.at m.unplugs) = unplugs s m.at n
-    (abstract_stages m.pipe) (abstract_state m.units rows) m.at m.unplugs st within eight in
+    p (abstract_state m.units rows) m.at m.unplugs st within eight in
     let P : List (Option Row) → Type 0 = λ x. PortsRefine s m.at x in
     let Q : List (Option Row) → Type 0 =
-    λ x. PipelineRefines s m.at (abstract_stages m.pipe) (abstract_state m.units x) in
+    λ x. PipelineRefines s m.at p (abstract_state m.units x) in
     let R : List (Option Row) → Type 0 = λ x. RefinesNext s m.at x t in
     let kept : RefinesNext s m.at (ports_left_in m.unplugs m.at rows 8) t =
-    subst R is (keeps st.begins (subst P (sym is) left.shows) (subst Q (sym is) left.refines)) in
-    let next : FieldsRefine s (suc m.at) n (abstract_stages after.pipe)
+    subst R is
+    (preserves st.begins (subst P (sym is) left.shows) (subst Q (sym is) left.refines)) in
+    let next : FieldsRefine s (suc m.at) n q
     (abstract_state after.units new) (suc m.at) m.unplugs = goes_on s m.at n
-    (abstract_stages m.pipe) (abstract_state m.units rows) m.at m.unplugs t st eight kept in
+    p (abstract_state m.units rows) m.at m.unplugs t st eight kept in
     let A : ℕ → Type 0 = λ k. FieldsRefine s (suc m.at) n
-    (abstract_stages after.pipe) (abstract_state after.units new) k m.unplugs in
+    q (abstract_state after.units new) k m.unplugs in
     let B : List (Option ℕ) → Type 0 = λ xs. FieldsRefine s (suc m.at) n
-    (abstract_stages after.pipe) (abstract_state after.units new) after.at xs in
+    q (abstract_state after.units new) after.at xs in
     record {
       refines = subst B (sym plan) (subst A (sym (add-one m.at) ∙ sym at) next);
       event_is = kept.event;
@@ -85,6 +93,17 @@ ticks s n m after rows between new event eight is within st keeps at plan =
           (row_at (ports_left_in m.unplugs m.at rows 8) k) (get_or m.unplugs k None) m.at
           (kept.ports k) (kept-row m.unplugs m.at rows k eight below);
     }
+
+-- the same by the step of the stages
+pub ticks_by_step : (s : Start) (n : ℕ) (p q : StageRegisters) (m after : Machine)
+    (rows between new : List (Option Row)) (event : Option Event) → length rows ≡ 8 →
+    between ≡ ports_left_in m.unplugs m.at rows 8 → m.at < n + 3 → RefinesWith s m.at n p m rows →
+    ticked_with q after.units new event ≡ step p (abstract_state m.units between) m.at →
+    after.at ≡ m.at + 1 → after.unplugs ≡ m.unplugs → TicksWith s m.at n rows q after new event
+ticks_by_step s n p q m after rows between new event eight is within st stepped at plan =
+    ticks s n p q m after rows between new event eight is within st
+    (λ begins shows refines. subst (λ (t : Ticked). RefinesNext s m.at between t) (sym stepped)
+    (keeps s m.at p (abstract_state m.units between) begins shows refines)) at plan
 
 no_events : (s : Start) (i : ℕ) → events s i 0 ≡ []
 unfolding world recent
@@ -125,19 +144,20 @@ run_begins s n thread m rows told st =
     }
 
 -- one more cycle of a run
-pub run_on : EventsGrow → (s : Start) (k n thread : ℕ) (first : List (Option Row))
-    (m after : Machine) (rows new : List (Option Row)) (before between now : Option (List ℕ))
-    (event : Option Event) → HasRun s k n thread first m rows before between → m.at ≡ k →
-    (Refines s m.at n m rows → Ticks s m.at n rows after new event) →
+pub run_on : EventsGrow → (s : Start) (k n thread : ℕ) {p q : StageRegisters}
+    (first : List (Option Row)) (m after : Machine) (rows new : List (Option Row))
+    (before between now : Option (List ℕ)) (event : Option Event) →
+    HasRunWith s k n thread first p m rows before between → m.at ≡ k →
+    (RefinesWith s m.at n p m rows → TicksWith s m.at n rows q after new event) →
     Appends between now (text (of_thread thread event)) →
-    HasRun s (k + 1) n thread first after new before now
-run_on grows s k n thread first m after rows new before between now event run at tick put =
-    let At : ℕ → Type 0 = λ c. Refines s c n m rows in
-    let After : ℕ → Type 0 = λ c. Ticks s c n rows after new event in
-    let ticked : Ticks s k n rows after new event =
+    HasRunWith s (k + 1) n thread first q after new before now
+run_on grows s k n thread {p} {q} first m after rows new before between now event run at tick put =
+    let At : ℕ → Type 0 = λ c. RefinesWith s c n p m rows in
+    let After : ℕ → Type 0 = λ c. TicksWith s c n rows q after new event in
+    let ticked : TicksWith s k n rows q after new event =
     subst After at (tick (subst At (sym at) run.refines)) in
     let Told : List ℕ → Type 0 = λ x. Appends before now x in
-    let done : HasRun s (suc k) n thread first after new before now = record {
+    let done : HasRunWith s (suc k) n thread first q after new before now = record {
       put =
           subst Told (sym (text-next grows s thread k event ticked.event_is)) (appends_more before
           between now (text (events s thread k)) (text (of_thread thread event)) run.put put);
@@ -146,44 +166,51 @@ run_on grows s k n thread first m after rows new before between now event run at
           λ i below. left_more (row_at first i) (row_at rows i) (row_at new i) (run.left i below)
           (ticked.left i below);
     } in
-    let Run : ℕ → Type 0 = λ c. HasRun s c n thread first after new before now in
+    let Run : ℕ → Type 0 = λ c. HasRunWith s c n thread first q after new before now in
     subst Run (sym (add-one k)) done
 
 -- a run continues over cycles without an event of the thread
-pub run_goes : (s : Start) (n thread : ℕ) (first : List (Option Row)) (m after : Machine)
-    (rows new : List (Option Row)) (before now : Option (List ℕ)) (line : List ℕ) →
-    HasRun s m.at n thread first m rows before now →
-    (Refines s m.at n m rows → Advanced s m.at n thread after new false line) → AreLeft rows new →
-    HasRun s after.at n thread first after new before now
-run_goes s n thread first m after rows new before now line run ahead left =
-    let gone : Advanced s m.at n thread after new false line = ahead run.refines in
-    let Told : List ℕ → Type 0 = λ x. Appends before now x in
-    record {
-      put = subst Told (sym (gone.last ∙ append-nil (text (events s thread m.at)))) run.put;
-      refines = gone.refines;
-      left =
-          λ i below. left_more (row_at first i) (row_at rows i) (row_at new i) (run.left i below)
-          (left i below);
-    }
+pub run_goes : (s : Start) (n thread : ℕ) (first : List (Option Row)) (stages later : Stages)
+    (m after : Machine) (rows new : List (Option Row)) (before now : Option (List ℕ))
+    (line : List ℕ) → Runs s m.at n thread first stages m rows before now →
+    ((w : Held Written) → RefinesWith s m.at n (registers_in stages w) m rows →
+    Advanced s m.at n thread later after new None line) → AreLeft rows new →
+    Runs s after.at n thread first later after new before now
+run_goes s n thread first stages later m after rows new before now line (w, run) ahead left =
+    let gone : Advanced s m.at n thread later after new None line = ahead w run.refines in
+    let Told : List ℕ → Type 0 = λ x. Appends before now x in (
+      gone.w,
+      record {
+        put = subst Told (sym (gone.last ∙ append-nil (text (events s thread m.at)))) run.put;
+        refines = gone.refines;
+        left =
+            λ i below. left_more (row_at first i) (row_at rows i) (row_at new i) (run.left i below)
+            (left i below);
+      },
+    )
 
 -- a run continues over cycles up to a line, which was written
-pub run_shows : (s : Start) (n thread : ℕ) (first : List (Option Row)) (m after : Machine)
-    (rows new : List (Option Row)) (before between now : Option (List ℕ)) (line : List ℕ) →
-    HasRun s m.at n thread first m rows before between →
-    (Refines s m.at n m rows → Advanced s m.at n thread after new true line) → AreLeft rows new →
-    Appends between now line → HasRun s after.at n thread first after new before now
-run_shows s n thread first m after rows new before between now line run ahead left put =
-    let gone : Advanced s m.at n thread after new true line = ahead run.refines in
-    let Told : List ℕ → Type 0 = λ x. Appends before now x in
-    record {
-      put =
-          subst Told (sym gone.last)
-          (appends_more before between now (text (events s thread m.at)) line run.put put);
-      refines = gone.refines;
-      left =
-          λ i below. left_more (row_at first i) (row_at rows i) (row_at new i) (run.left i below)
-          (left i below);
-    }
+pub run_shows : (s : Start) (n thread : ℕ) (first : List (Option Row)) (stages later : Stages)
+    (m after : Machine) (rows new : List (Option Row)) (before between now : Option (List ℕ))
+    (x : Written) (line : List ℕ) → Runs s m.at n thread first stages m rows before between →
+    ((w : Held Written) → RefinesWith s m.at n (registers_in stages w) m rows →
+    Advanced s m.at n thread later after new (Some x) line) → AreLeft rows new →
+    Appends between now line → Runs s after.at n thread first later after new before now
+run_shows s n thread first stages later m after rows new
+    before between now x line (w, run) ahead left put =
+    let gone : Advanced s m.at n thread later after new (Some x) line = ahead w run.refines in
+    let Told : List ℕ → Type 0 = λ x. Appends before now x in (
+      gone.w,
+      record {
+        put =
+            subst Told (sym gone.last)
+            (appends_more before between now (text (events s thread m.at)) line run.put put);
+        refines = gone.refines;
+        left =
+            λ i below. left_more (row_at first i) (row_at rows i) (row_at new i) (run.left i below)
+            (left i below);
+      },
+    )
 
 -- bytes, and then a prefix of others
 pub beyond : (before between now : Option (List ℕ)) (xs ys : List ℕ) → Appends before between xs →
@@ -194,15 +221,20 @@ beyond (Some told) (Some more) None xs ys first second = absurd second
 beyond (Some told) (Some more) (Some most) xs ys first (n, within, taken) =
     (take n ys, taken ∙ ap (λ zs. zs ++ take n ys) first)
 
--- a run that stops at a line, with a prefix of the line written
+-- A run that stops at a line, with a prefix of the line written. The machine has its stage
+-- registers again.
 pub run_stops : EventsGrow → (s : Start) (n thread : ℕ) (first : List (Option Row))
-    (m after : Machine) (rows new : List (Option Row)) (before between now : Option (List ℕ))
-    (line : List ℕ) → after.at ≤ n → HasRun s m.at n thread first m rows before between →
-    (Refines s m.at n m rows → Advanced s m.at n thread after new true line) → AreLeft rows new →
-    AppendsFront between now line → Stopped s n thread first after new before now
-run_stops grows s n thread first m after rows new
-    before between now line within run ahead left put =
-    let gone : Advanced s m.at n thread after new true line = ahead run.refines in
+    (stages later : Stages) (m after : Machine) (rows new : List (Option Row))
+    (before between now : Option (List ℕ)) (x : Written) (line : List ℕ) (pipe : Pipe) →
+    abstract_stages pipe ≡ registers_in later (Issue thread x) →
+    after.at ≤ n → Runs s m.at n thread first stages m rows before between →
+    ((w : Held Written) → RefinesWith s m.at n (registers_in stages w) m rows →
+    Advanced s m.at n thread later after new (Some x) line) → AreLeft rows new →
+    AppendsFront between now line →
+    Stopped s n thread first (record after { pipe = pipe }) new before now
+run_stops grows s n thread first stages later m after rows new
+    before between now x line pipe pipe_is within (w, run) ahead left put =
+    let gone : Advanced s m.at n thread later after new (Some x) line = ahead w run.refines in
     let told : List ℕ = text (events s thread m.at) in
     let (rest, goes) = text_goes_on grows s thread after.at (n - after.at) in
     let end : n ≡ after.at + (n - after.at) = omega (arith, within) in
@@ -210,6 +242,7 @@ run_stops grows s n thread first m after rows new
     ap (λ c. text (events s thread c)) end ∙ goes ∙ ap (λ zs. zs ++ rest) gone.last in
     let Beyond : List ℕ → Type 0 = λ x. AppendsBeyond before now x in
     let Front : List ℕ → Type 0 = λ x. AppendsFront before now x in
+    let With : StageRegisters → Type 0 = λ p. RefinesWith s after.at n p after new in
     record {
       put =
           appends_front before between now told line rest
@@ -219,16 +252,56 @@ run_stops grows s n thread first m after rows new
       with_last =
           subst Front (sym gone.last) (front_after before between now told line run.put put);
       within = within;
-      refines = gone.refines;
+      refines =
+          subst With (ap (λ v. registers_in later v) (gone.exact x refl) ∙ sym pipe_is)
+          gone.refines;
       left =
           λ i below. left_more (row_at first i) (row_at rows i) (row_at new i) (run.left i below)
           (left i below);
     }
 
+-- a run takes its machine's stage registers
+pub run_with : (s : Start) (k n thread : ℕ) (first : List (Option Row)) (stages : Stages)
+    (m : Machine) (rows : List (Option Row)) (before now : Option (List ℕ)) →
+    registers_in stages m.pipe.w ≡ abstract_stages m.pipe →
+    HasRun s k n thread first m rows before now → Runs s k n thread first stages m rows before now
+run_with s k n thread first stages m rows before now is run = (
+  m.pipe.w,
+  subst (λ p. HasRunWith s k n thread first p m rows before now) (sym is) run,
+)
+
+-- and its last cycle gives them back
+pub run_ends : EventsGrow → (s : Start) (n thread : ℕ) (first : List (Option Row))
+    (stages : Stages) (q : StageRegisters) (m after : Machine) (rows new : List (Option Row))
+    (before between now : Option (List ℕ)) (event : Option Event) (pipe : Pipe) →
+    abstract_stages pipe ≡ q → Runs s m.at n thread first stages m rows before between →
+    ((w : Held Written) → RefinesWith s m.at n (registers_in stages w) m rows →
+    TicksWith s m.at n rows q after new event) →
+    Appends between now (text (of_thread thread event)) →
+    HasRun s (m.at + 1) n thread first (record after { pipe = pipe }) new before now
+run_ends grows s n thread first stages q m after rows new
+    before between now event pipe is (w, run) tick put =
+    let done : HasRunWith s (m.at + 1) n thread first q after new before now =
+    run_on grows s m.at n thread first m after rows new before between now event run refl (tick w)
+    put in
+    record {
+      put = done.put;
+      refines = subst (λ p. RefinesWith s (m.at + 1) n p after new) (sym is) done.refines;
+      left = done.left;
+    }
+
 -- a run, by an equal number of cycles
 pub run_comes_to : {s : Start} {k c n thread : ℕ} {first : List (Option Row)}
-    {m : Machine} {rows : List (Option Row)} {before now : Option (List ℕ)} → k ≡ c →
+    (stages : Stages) {m : Machine} {rows : List (Option Row)} {before now : Option (List ℕ)} →
+    k ≡ c → Runs s k n thread first stages m rows before now →
+    Runs s c n thread first stages m rows before now
+run_comes_to {s} {k} {c} {n} {thread} {first} stages {m} {rows} {before} {now} same run =
+    let Run : ℕ → Type 0 = λ a. Runs s a n thread first stages m rows before now in
+    subst Run same run
+
+pub machine_comes_to : {s : Start} {k c n thread : ℕ} {first : List (Option Row)} {m : Machine}
+    {rows : List (Option Row)} {before now : Option (List ℕ)} → k ≡ c →
     HasRun s k n thread first m rows before now → HasRun s c n thread first m rows before now
-run_comes_to {s} {k} {c} {n} {thread} {first} {m} {rows} {before} {now} same run =
+machine_comes_to {s} {k} {c} {n} {thread} {first} {m} {rows} {before} {now} same run =
     let Run : ℕ → Type 0 = λ a. HasRun s a n thread first m rows before now in
     subst Run same run

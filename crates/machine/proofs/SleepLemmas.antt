@@ -26,7 +26,7 @@ use Rattle.timer_unit.specs.Time.{time}
 use Rattle.trace_print.specs.Text.{text}
 use Rattle.core_model.specs.World.{Start, events, sched_by}
 use Rattle.pipe_model.specs.declared.stage_registers.Held.TheVariants as stage
-use Rattle.pipe_model.specs.Stages.{After, StageRegisters, Ticked, next_after_fetch}
+use Rattle.pipe_model.specs.Stages.{After, StageRegisters, State, Ticked, next_after_fetch}
 use Rattle.pipe_model.specs.Stages.{bank_after, decode_stage, execute_stage, fetch_stage}
 use Rattle.pipe_model.specs.Stages.{finish, memory_stage, ports_stored, next_after_redirect}
 use Rattle.pipe_model.specs.Stages.{retired_event, step, words_stored, writeback_stage}
@@ -34,10 +34,15 @@ use Rattle.pipe_model.specs.Relation.{Begins, RefinesNext, PortsRefine}
 use Rattle.pipe_model.specs.Relation.{Refines as PipelineRefines, event_in, of_thread, turn_at}
 use Rattle.pipe_model.specs.PipelineLaws.{EventsGrow, empty}
 use Rattle.pipe_model.proofs.Keeping.{keeps}
-use Rattle.pipeline_core.specs.Abstraction.{abstract_stages, abstract_state, abstract_ticked}
+use Rattle.pipeline_core.specs.Abstraction.{abstract_stages, abstract_state, registers_in}
+use Rattle.pipeline_core.specs.Abstraction.{ticked_with}
 use Rattle.machine.specs.declared.state.Machine.{Machine}
-use Rattle.machine.specs.WorldRelation.{HasRun, Refines, Ticks}
-use Rattle.machine.specs.Sleeping.{NobodyAwake, PassedOver, SleepsOn}
+use Rattle.pipe_model.specs.declared.stage_registers.Held.{Held}
+use Rattle.pipe_model.specs.declared.stage_registers.Written.{Written}
+use Rattle.pipeline_core.specs.declared.stages.Stages.{Stages}
+use Rattle.machine.specs.Advancing.{Runs}
+use Rattle.machine.specs.WorldRelation.{HasRun, HasRunWith, Refines, RefinesWith, TicksWith}
+use Rattle.machine.specs.Sleeping.{NobodyAwake, PassedOver, PassedOverWith, SleepsOn, idle_tick}
 use Rattle.machine.proofs.Retiring.{none_due}
 use Rattle.machine.proofs.RunLemmas.{run_begins, ticks}
 
@@ -72,84 +77,143 @@ nobody_picked s cycle now last asleep = go (turn s.slots cycle) (IsTurn-turn s.s
     go Soft is = none_donated s now last asleep
     go (Thread k) is = rw (asleep k is) (none_donated s now last asleep)
 
-pub sleeps_on : SleepsOn
+-- whatever the turn in W is
+asleep_with : (next : List ℕ) (w : Held Written) (u : State) (c : ℕ) →
+    NobodyAwake (sched_by u.control.registers u.control.sleeps) (time u.period c) →
+    step (record (empty next) { w = w }) u c ≡ idle_tick next u
 unfolding step bank_after writeback_stage retired_event memory_stage words_stored ports_stored
     execute_stage decode_stage next_after_redirect fetch_stage next_after_fetch
-sleeps_on next u c asleep =
+asleep_with next w u c asleep =
     let left : After = record { e = stage.Bubble; control = u.control; redirect = None } in
-    ap (λ (picked : Picked). finish (empty next) u c picked stage.Bubble left) (nobody_picked
-    (sched_by u.control.registers u.control.sleeps) c (time u.period c) u.last asleep)
+    ap (λ (picked : Picked). finish (record (empty next) { w = w }) u c picked stage.Bubble left)
+    (nobody_picked (sched_by u.control.registers u.control.sleeps) c (time u.period c) u.last
+    asleep)
+
+pub sleeps_on : SleepsOn
+sleeps_on next u c asleep = asleep_with next stage.Bubble u c asleep
 
 -- the machine at another cycle
 abbrev pub come_to : Machine → ℕ → Machine
 come_to m c = record m { at = c }
 
 -- one skipped cycle
-slept : (s : Start) (c n : ℕ) (m : Machine) (rows : List (Option Row)) → length rows ≡ 8 →
-    list_any is_some m.unplugs ≡ false → abstract_stages m.pipe ≡ empty m.pipe.next →
+slept : (s : Start) (c n : ℕ) (next : List ℕ) (w : Held Written) (m : Machine)
+    (rows : List (Option Row)) → length rows ≡ 8 → list_any is_some m.unplugs ≡ false →
     NobodyAwake m.units.sched (time m.units.clock c) → c < n + 3 →
-    Refines s c n (come_to m c) rows → Ticks s c n rows (come_to m (suc c)) rows None
-slept s c n m rows eight none is asleep within st =
-    ticks s n (come_to m c) (come_to m (suc c)) rows rows rows None eight
-    (sym (none_due m.unplugs c rows 8 none)) within st kept (sym (add-one c)) refl
+    RefinesWith s c n (record (empty next) { w = w }) (come_to m c) rows →
+    TicksWith s c n rows (empty next) (come_to m (suc c)) rows None
+slept s c n next w m rows eight none asleep within st =
+    ticks s n (record (empty next) { w = w }) (empty next) (come_to m c) (come_to m (suc c)) rows
+    rows rows None eight (sym (none_due m.unplugs c rows 8 none)) within st kept
+    (sym (add-one c)) refl
   where
-    same : step (abstract_stages m.pipe) (abstract_state m.units rows) c
-        ≡ abstract_ticked m.pipe m.units rows None
-    same =
-        ap (λ (p : StageRegisters). step p (abstract_state m.units rows) c) is
-        ∙ sleeps_on m.pipe.next (abstract_state m.units rows) c asleep
-        ∙ ap (λ (p : StageRegisters). let t : Ticked = record {
-          stage_registers = p;
-          state = abstract_state m.units rows;
-          event = None;
-        } in t) (sym is)
+    same : step (record (empty next) { w = w }) (abstract_state m.units rows) c
+        ≡ ticked_with (empty next) m.units rows None
+    same = asleep_with next w (abstract_state m.units rows) c asleep
 
     kept : Begins s → PortsRefine s c rows →
-        PipelineRefines s c (abstract_stages m.pipe) (abstract_state m.units rows) →
-        RefinesNext s c rows (abstract_ticked m.pipe m.units rows None)
+        PipelineRefines s c (record (empty next) { w = w }) (abstract_state m.units rows) →
+        RefinesNext s c rows (ticked_with (empty next) m.units rows None)
     kept begins shows refines =
         subst (λ (t : Ticked). RefinesNext s c rows t) same
-        (keeps s c (abstract_stages m.pipe) (abstract_state m.units rows) begins shows refines)
+        (keeps s c (record (empty next) { w = w }) (abstract_state m.units rows) begins shows
+        refines)
 
 -- a machine that stays at its cycle has skipped none
-pub stays : (s : Start) (n : ℕ) (m : Machine) (rows : List (Option Row)) → Refines s m.at n m rows →
-    PassedOver s m.at n m rows
-stays s n m rows st = record { refines = st; quiet = λ k low below. absurd (omega arith) }
+pub stays : (s : Start) (n : ℕ) (p : StageRegisters) (m : Machine) (rows : List (Option Row)) →
+    RefinesWith s m.at n p m rows → PassedOverWith s m.at n p m rows
+stays s n p m rows st = record { refines = st; quiet = λ k low below. absurd (omega arith) }
 
-passes : (s : Start) (c n j : ℕ) (m : Machine) (rows : List (Option Row)) → length rows ≡ 8 →
-    list_any is_some m.unplugs ≡ false → abstract_stages m.pipe ≡ empty m.pipe.next →
-    ((k : ℕ) → c ≤ k → k < c + j → NobodyAwake m.units.sched (time m.units.clock k)) →
-    c + j ≤ n + 3 → Refines s c n (come_to m c) rows → PassedOver s c n (come_to m (c + j)) rows
-passes s c n zero m rows eight none is asleep within st =
-    subst (λ (d : ℕ). PassedOver s c n (come_to m d) rows) (sym (add-zero c))
-    (stays s n (come_to m c) rows st)
-passes s c n (suc j) m rows eight none is asleep within st =
-    let next : c + suc j ≡ suc (c + j) = omega arith in
-    let before : PassedOver s c n (come_to m (c + j)) rows = passes s c n j m rows eight none is
+-- after one skipped cycle there are no turns at all
+passes : (s : Start) (c n j : ℕ) (next : List ℕ) (w : Held Written) (m : Machine)
+    (rows : List (Option Row)) → length rows ≡ 8 → list_any is_some m.unplugs ≡ false →
+    ((k : ℕ) → c ≤ k → k < c + suc j → NobodyAwake m.units.sched (time m.units.clock k)) →
+    c + suc j ≤ n + 3 → RefinesWith s c n (record (empty next) { w = w }) (come_to m c) rows →
+    PassedOverWith s c n (empty next) (come_to m (c + suc j)) rows
+passes s c n zero next w m rows eight none asleep within st =
+    let ticked : TicksWith s c n rows (empty next) (come_to m (suc c)) rows None =
+    slept s c n next w m rows eight none (asleep c (omega arith) (omega arith)) (omega arith) st in
+    let quiet : (k : ℕ) → c ≤ k → k < suc c → event_in (k - 4) (turn_at s k 3) ≡ None =
+    λ k low below.
+    let here : c ≡ k = omega arith in
+    subst (λ (d : ℕ). event_in (d - 4) (turn_at s d 3) ≡ None) here (sym ticked.event_is) in
+    let done : PassedOverWith s c n (empty next) (come_to m (suc c)) rows =
+    record { refines = ticked.refines; quiet = quiet } in
+    let one : suc c ≡ c + 1 = omega arith in
+    subst (λ (d : ℕ). PassedOverWith s c n (empty next) (come_to m d) rows) one done
+passes s c n (suc j) next w m rows eight none asleep within st =
+    let next_is : c + suc (suc j) ≡ suc (c + suc j) = omega arith in
+    let before : PassedOverWith s c n (empty next) (come_to m (c + suc j)) rows =
+    passes s c n j next w m rows eight none
     (λ k low below. asleep k low (omega arith)) (omega arith) st in
-    let ticked : Ticks s (c + j) n rows (come_to m (suc (c + j))) rows None = slept s (c + j) n m
-    rows eight none is (asleep (c + j) (omega arith) (omega arith)) (omega arith) before.refines in
-    let quiet : (k : ℕ) → c ≤ k → k < suc (c + j) → event_in (k - 4) (turn_at s k 3) ≡ None =
-    λ k low below. elim (cases_lt k (c + j)) [
+    let ticked : TicksWith s (c + suc j) n rows (empty next) (come_to m (suc (c + suc j))) rows
+    None =
+    slept s (c + suc j) n next stage.Bubble m rows eight none
+    (asleep (c + suc j) (omega arith) (omega arith)) (omega arith) before.refines in
+    let quiet : (k : ℕ) → c ≤ k → k < suc (c + suc j) → event_in (k - 4) (turn_at s k 3) ≡ None =
+    λ k low below. elim (cases_lt k (c + suc j)) [
       | inl sooner ↦ before.quiet k low sooner
       | inr last ↦
-          (let here : c + j ≡ k = omega arith in
+          (let here : c + suc j ≡ k = omega arith in
           subst (λ (d : ℕ). event_in (d - 4) (turn_at s d 3) ≡ None) here (sym ticked.event_is))
     ] in
-    let done : PassedOver s c n (come_to m (suc (c + j))) rows =
+    let done : PassedOverWith s c n (empty next) (come_to m (suc (c + suc j))) rows =
     record { refines = ticked.refines; quiet = quiet } in
-    subst (λ (d : ℕ). PassedOver s c n (come_to m d) rows) (sym next) done
+    subst (λ (d : ℕ). PassedOverWith s c n (empty next) (come_to m d) rows) (sym next_is) done
+
+-- the cycles up to a later one are skipped
+passes_to : (s : Start) (n d : ℕ) (next : List ℕ) (w : Held Written) (m : Machine)
+    (rows : List (Option Row)) → length rows ≡ 8 → list_any is_some m.unplugs ≡ false → m.at < d →
+    ((k : ℕ) → m.at ≤ k → k < d → NobodyAwake m.units.sched (time m.units.clock k)) → d ≤ n + 3 →
+    RefinesWith s m.at n (record (empty next) { w = w }) m rows →
+    PassedOverWith s m.at n (empty next) (come_to m d) rows
+passes_to s n d next w m rows eight none forth asleep within st =
+    let there : m.at + suc (d - m.at - 1) ≡ d = omega (arith, forth) in
+    subst (λ (e : ℕ). PassedOverWith s m.at n (empty next) (come_to m e) rows) there
+    (passes s m.at n (d - m.at - 1) next w m rows eight none
+    (λ k low below. asleep k low (omega (arith, forth, below))) (omega (arith, forth, within)) st)
 
 -- the cycles up to d are skipped
 pub passed_over : (s : Start) (n d : ℕ) (m : Machine) (rows : List (Option Row)) → length rows ≡ 8 →
-    list_any is_some m.unplugs ≡ false → abstract_stages m.pipe ≡ empty m.pipe.next → m.at ≤ d →
+    (m.at < d → list_any is_some m.unplugs ≡ false) →
+    abstract_stages m.pipe ≡ empty m.pipe.next → m.at ≤ d →
     ((k : ℕ) → m.at ≤ k → k < d → NobodyAwake m.units.sched (time m.units.clock k)) → d ≤ n + 3 →
     Refines s m.at n m rows → PassedOver s m.at n (come_to m d) rows
 passed_over s n d m rows eight none is forth asleep within st =
-    let there : m.at + (d - m.at) ≡ d = omega (arith, forth) in
-    subst (λ (e : ℕ). PassedOver s m.at n (come_to m e) rows) there
-    (passes s m.at n (d - m.at) m rows eight none is
-    (λ k low below. asleep k low (omega (arith, forth, below))) (omega (arith, forth, within)) st)
+    elim (cases_lt m.at d) [
+      | inl more ↦
+          subst (λ p. PassedOverWith s m.at n p (come_to m d) rows) (sym is)
+          (passes_to s n d m.pipe.next stage.Bubble m rows eight (none more) more asleep within
+          (subst (λ p. RefinesWith s m.at n p m rows) is st))
+      | inr end ↦
+          (let here : m.at ≡ d = omega (arith, forth, end) in
+          subst (λ (e : ℕ). PassedOver s m.at n (come_to m e) rows) here
+          (stays s n (abstract_stages m.pipe) m rows st))
+    ]
+
+-- the same with the stage registers beside the machine
+pub passed_over_with : (s : Start) (n d : ℕ) (stages : Stages) (w : Held Written) (m : Machine)
+    (rows : List (Option Row)) → length rows ≡ 8 → (m.at < d → list_any is_some m.unplugs ≡ false) →
+    ((v : Held Written) → registers_in stages v ≡ record (empty stages.next) { w = v }) → m.at ≤ d →
+    ((k : ℕ) → m.at ≤ k → k < d → NobodyAwake m.units.sched (time m.units.clock k)) → d ≤ n + 3 →
+    RefinesWith s m.at n (registers_in stages w) m rows →
+    (v : Held Written) × PassedOverWith s m.at n (registers_in stages v) (come_to m d) rows
+passed_over_with s n d stages w m rows eight none is forth asleep within st =
+    elim (cases_lt m.at d) [
+      | inl more ↦ (
+        stage.Bubble,
+        subst (λ p. PassedOverWith s m.at n p (come_to m d) rows) (sym (is stage.Bubble))
+            (passes_to s n d stages.next w m rows eight (none more) more asleep within
+            (subst (λ p. RefinesWith s m.at n p m rows) (is w) st)),
+      )
+      | inr end ↦ (
+        w,
+        (let here : m.at ≡ d = omega (arith, forth, end) in
+            subst (λ (e : ℕ). PassedOverWith s m.at n (registers_in stages w) (come_to m e) rows)
+            here
+            (stays s n (registers_in stages w) m rows st)),
+      )
+    ]
 
 -- a cycle before the first one that reaches a moment
 sooner : (moment length cycles period c : ℕ) → cycles * length < moment + length → c < cycles →
@@ -192,27 +256,43 @@ quiet_events grows s i c (suc j) quiet =
     (quiet (c + j) (omega arith) (omega arith)) ∙ append-nil (events s i (c + j))
     ∙ quiet_events grows s i c j (λ k low below. quiet k low (omega arith))
 
-pub no_events_passed : EventsGrow → (s : Start) (i c n : ℕ) (m : Machine)
-    (rows : List (Option Row)) → c ≤ m.at → PassedOver s c n m rows → events s i m.at ≡ events s i c
+pub no_events_passed : EventsGrow → (s : Start) (i c n : ℕ) {p : StageRegisters} (m : Machine)
+    (rows : List (Option Row)) → c ≤ m.at → PassedOverWith s c n p m rows →
+    events s i m.at ≡ events s i c
 no_events_passed grows s i c n m rows forth passed =
     let there : c + (m.at - c) ≡ m.at = omega (arith, forth) in
     ap (λ d. events s i d) (sym there) ∙ quiet_events grows s i c (m.at - c)
     (λ k low below. passed.quiet k low (omega (arith, forth, below)))
 
 -- a run continues over skipped cycles
-pub run_passes : EventsGrow → (s : Start) (k n thread : ℕ) (first : List (Option Row))
-    (m after : Machine) (rows : List (Option Row)) (before now : Option (List ℕ)) →
-    m.at ≡ k → m.at ≤ after.at → (Refines s m.at n m rows → PassedOver s m.at n after rows) →
-    HasRun s k n thread first m rows before now →
-    HasRun s after.at n thread first after rows before now
-run_passes grows s k n thread first m after rows before now at forth passes run =
-    let Stand : ℕ → Type 0 = λ c. Refines s c n m rows in
-    let passed : PassedOver s m.at n after rows = passes (subst Stand (sym at) run.refines) in
+pub run_passes : EventsGrow → (s : Start) (k n thread : ℕ) {p q : StageRegisters}
+    (first : List (Option Row)) (m after : Machine) (rows : List (Option Row))
+    (before now : Option (List ℕ)) → m.at ≡ k → m.at ≤ after.at →
+    (RefinesWith s m.at n p m rows → PassedOverWith s m.at n q after rows) →
+    HasRunWith s k n thread first p m rows before now →
+    HasRunWith s after.at n thread first q after rows before now
+run_passes grows s k n thread {p} {q} first m after rows before now at forth passes run =
+    let Stand : ℕ → Type 0 = λ c. RefinesWith s c n p m rows in
+    let passed : PassedOverWith s m.at n q after rows = passes (subst Stand (sym at) run.refines) in
     let same : events s thread after.at ≡ events s thread k =
     no_events_passed grows s thread m.at n after rows forth passed
     ∙ ap (λ c. events s thread c) at in
     let Told : List Event → Type 0 = λ es. Appends before now (text es) in
     record { put = subst Told (sym same) run.put; refines = passed.refines; left = run.left }
+
+-- the same with the stage registers beside the machine
+pub runs_pass : EventsGrow → (s : Start) (n thread : ℕ) (first : List (Option Row))
+    (stages : Stages) (m after : Machine) (rows : List (Option Row))
+    (before now : Option (List ℕ)) → m.at ≤ after.at →
+    ((w : Held Written) → RefinesWith s m.at n (registers_in stages w) m rows →
+    (v : Held Written) × PassedOverWith s m.at n (registers_in stages v) after rows) →
+    Runs s m.at n thread first stages m rows before now →
+    Runs s after.at n thread first stages after rows before now
+runs_pass grows s n thread first stages m after rows before now forth passes (w, run) =
+    let (v, passed) = passes w run.refines in (
+      v,
+      run_passes grows s m.at n thread first m after rows before now refl forth (λ st. passed) run,
+    )
 
 -- the run of a machine that has done no cycle
 pub run_begins_at : (s : Start) (n thread : ℕ) (m : Machine) (rows : List (Option Row))

@@ -15,7 +15,7 @@ use Rattle.pipe_model.specs.declared.stage_registers.Held.TheVariants.{Bubble, F
 use Rattle.pipe_model.specs.declared.stage_registers.Stored.{Stored}
 use Rattle.pipe_model.specs.Stages.{StageRegisters, State, Ticked, ports_stored, put_at_port, step}
 use Rattle.pipe_model.specs.Relation.{port_words}
-use Rattle.pipeline_core.specs.Abstraction.{abstract_stages, abstract_state}
+use Rattle.pipeline_core.specs.Abstraction.{abstract_state}
 use Rattle.machine.specs.FieldRelation.{ports_left_in}
 use Rattle.machine.specs.DumpedState.{is_port_left}
 use Rattle.machine.proofs.PortLemmas.{kept-row}
@@ -68,13 +68,13 @@ row-words before after k same =
     ∙ get_or-map port_words before k None
 
 -- the ports that a cycle leaves show the same words as before
-pub cycle_words : (m : Machine) (rows between : List (Option Row)) (t : Ticked) → length rows ≡ 8 →
-    between ≡ ports_left_in m.unplugs m.at rows 8 → t ≡ step (abstract_stages m.pipe)
-    (abstract_state m.units between) m.at → AreLeft rows t.state.ports
-cycle_words m rows between t eight is stepped k below =
+pub cycle_words : (m : Machine) (p : StageRegisters) (rows between : List (Option Row))
+    (t : Ticked) → length rows ≡ 8 → between ≡ ports_left_in m.unplugs m.at rows 8 →
+    t ≡ step p (abstract_state m.units between) m.at → AreLeft rows t.state.ports
+cycle_words m p rows between t eight is stepped k below =
     let same : map port_words t.state.ports ≡ map port_words between =
     ap (λ (x : Ticked). map port_words x.state.ports) stepped
-    ∙ step-words (abstract_stages m.pipe) (abstract_state m.units between) m.at in
+    ∙ step-words p (abstract_state m.units between) m.at in
     left_is (row_at rows k) (row_at t.state.ports k) (row_at between k)
     (get_or m.unplugs k None) m.at (row-words between t.state.ports k same)
     (ap (λ (xs : List (Option Row)). row_at xs k) is ∙ kept-row m.unplugs m.at rows k eight below)

@@ -18,3 +18,7 @@ pub use Rattle.timer_unit.specs.Time
 pub use Rattle.trace_print.specs.Text
 pub use Rattle.core_model.specs.World
 pub use Rattle.rv_exec.specs.Line
+pub use Rattle.pipe_model.specs.declared.stage_registers.Held
+pub use Rattle.pipe_model.specs.declared.stage_registers.Written
+pub use Rattle.pipeline_core.specs.Abstraction
+pub use Rattle.pipeline_core.specs.Turns

@@ -5,11 +5,12 @@ use Rattle.slot_scheduler.specs.declared.picking.Sched.{Sched}
 use Rattle.slot_scheduler.specs.Picking.{is_awake}
 use Rattle.timer_unit.specs.Time.{time}
 use Rattle.core_model.specs.World.{Start, sched_by}
-use Rattle.pipe_model.specs.Stages.{State, Ticked, step}
+use Rattle.pipe_model.specs.Stages.{StageRegisters, State, Ticked, step}
 use Rattle.pipe_model.specs.Relation.{event_in, turn_at}
 use Rattle.pipe_model.specs.PipelineLaws.{empty}
 use Rattle.machine.specs.declared.state.Machine.{Machine}
-use Rattle.machine.specs.WorldRelation.{Refines}
+use Rattle.pipeline_core.specs.Abstraction.{abstract_stages}
+use Rattle.machine.specs.WorldRelation.{RefinesWith}
 use Rattle.core_model.specs.Cycles.{cycles_to_w}
 
 -- no thread is awake at a time
@@ -27,8 +28,13 @@ SleepsOn =
     NobodyAwake (sched_by u.control.registers u.control.sleeps) (time u.period c) →
     step (empty next) u c ≡ idle_tick next u
 
--- the machine and the ports refine the machine's current cycle, and no event retired in the cycles
--- from c to it
-pub record PassedOver (s : Start) (c n : ℕ) (m : Machine) (ports : List (Option Row)) : Type 0 where
-  pub refines : Refines s m.at n m ports
+-- The machine and the ports refine the machine's current cycle, and no event retired in the cycles
+-- from c to it. The machine is taken with these stage registers.
+pub record PassedOverWith (s : Start) (c n : ℕ) (p : StageRegisters) (m : Machine)
+    (ports : List (Option Row)) : Type 0 where
+  pub refines : RefinesWith s m.at n p m ports
   pub quiet : (k : ℕ) → c ≤ k → k < m.at → event_in (k - cycles_to_w) (turn_at s k 3) ≡ None
+
+-- the same with the machine's own stage registers
+abbrev pub PassedOver : Start → ℕ → ℕ → Machine → List (Option Row) → Type 0
+PassedOver s c n m ports = PassedOverWith s c n (abstract_stages m.pipe) m ports

@@ -15,7 +15,7 @@ use Rattle.timer_unit.specs.Time.{no_timer}
 use Rattle.trap_unit.specs.Rows.{no_trap}
 use Rattle.core_model.specs.World.{Start, world, events}
 use Rattle.setup_model.specs.Start.{start, thread_setup_of, i_words_of, d_words_of}
-use Rattle.pipe_model.specs.Stages.{State}
+use Rattle.pipe_model.specs.Stages.{StageRegisters, State}
 use Rattle.pipe_model.specs.Relation.{event_in, turn_at, port_words}
 use Rattle.pipeline_core.specs.Abstraction.{abstract_stages, abstract_state}
 use Rattle.machine.specs.FieldRelation.{FieldsRefine}
@@ -23,10 +23,14 @@ use Rattle.machine.specs.DumpedState.{is_port_left}
 use Rattle.machine.specs.declared.state.Machine.{Machine}
 use Rattle.core_model.specs.Cycles.{cycles_to_m, cycles_to_w}
 
--- the machine and the ports refine cycle c of the world; its lists of shown words have n entries
+-- the machine with these stage registers and the ports refine cycle c of the world; its lists of
+-- shown words have n entries
+abbrev pub RefinesWith : Start → ℕ → ℕ → StageRegisters → Machine → List (Option Row) → Type 0
+RefinesWith s c n p m ports = FieldsRefine s c n p (abstract_state m.units ports) m.at m.unplugs
+
+-- the same with the machine's own stage registers
 abbrev pub Refines : Start → ℕ → ℕ → Machine → List (Option Row) → Type 0
-Refines s c n m ports =
-    FieldsRefine s c n (abstract_stages m.pipe) (abstract_state m.units ports) m.at m.unplugs
+Refines s c n m ports = RefinesWith s c n (abstract_stages m.pipe) m ports
 
 -- the start of a run of n cycles with ports that were fed already
 abbrev pub start_beside : Settings → List Segment → List (Option Row) → ℕ → Start
@@ -43,20 +47,32 @@ IsLeft before (Some row) = port_words before ≡ Some row.words
 abbrev pub AreLeft : List (Option Row) → List (Option Row) → Type 0
 AreLeft before after = (k : ℕ) → k < 8 → IsLeft (row_at before k) (row_at after k)
 
--- the state after a cycle refines the next one, and the result is the event that retires
-pub record Ticks (s : Start) (c n : ℕ) (before : List (Option Row)) (m : Machine)
-    (ports : List (Option Row)) (event : Option Event) : Type 0 where
-  pub refines : Refines s (suc c) n m ports
+-- The state after a cycle refines the next one, and the result is the event that retires. The
+-- machine is taken with these stage registers.
+pub record TicksWith (s : Start) (c n : ℕ) (before : List (Option Row)) (p : StageRegisters)
+    (m : Machine) (ports : List (Option Row)) (event : Option Event) : Type 0 where
+  pub refines : RefinesWith s (suc c) n p m ports
   pub event_is : event ≡ event_in (c - cycles_to_w) (turn_at s c 3)
   pub left : AreLeft before ports
 
+-- the same with the machine's own stage registers
+abbrev pub Ticks : Start → ℕ → ℕ → List (Option Row) → Machine → List (Option Row) →
+    Option Event → Type 0
+Ticks s c n before m ports event = TicksWith s c n before (abstract_stages m.pipe) m ports event
+
 -- k cycles of a run of n have put the text of the thread's events so far. Machine and ports refine
--- cycle k
-pub record HasRun (s : Start) (k n thread : ℕ) (first : List (Option Row)) (m : Machine)
-    (ports : List (Option Row)) (before after : Option (List ℕ)) : Type 0 where
+-- cycle k. The machine is taken with these stage registers.
+pub record HasRunWith (s : Start) (k n thread : ℕ) (first : List (Option Row)) (p : StageRegisters)
+    (m : Machine) (ports : List (Option Row)) (before after : Option (List ℕ)) : Type 0 where
   pub put : Appends before after (text (events s thread k))
-  pub refines : Refines s k n m ports
+  pub refines : RefinesWith s k n p m ports
   pub left : AreLeft first ports
+
+-- the same with the machine's own stage registers
+abbrev pub HasRun : Start → ℕ → ℕ → ℕ → List (Option Row) → Machine → List (Option Row) →
+    Option (List ℕ) → Option (List ℕ) → Type 0
+HasRun s k n thread first m ports before after =
+    HasRunWith s k n thread first (abstract_stages m.pipe) m ports before after
 
 -- the bytes appended begin with these
 abbrev pub AppendsBeyond : Option (List ℕ) → Option (List ℕ) → List ℕ → Type 0

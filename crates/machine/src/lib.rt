@@ -2,6 +2,7 @@
 //! setup, an image and the devices at the ports.
 #![tactic(auto)]
 
+mod advancing;
 mod dumping;
 mod feeding;
 mod field_laws;

@@ -1,7 +1,8 @@
 //! The cycles in which every thread sleeps.
 
-ghost use Rattle.std.specs.Prelude.{◌≡◌, ℕ, ◌+◌, ◌<◌, ◌≤◌, true, List};
-ghost use Rattle.std.specs.Prelude.{Option, length, slice_index_or};
+ghost use Rattle.std.specs.Prelude.{◌≡◌, ℕ, ◌+◌, ◌<◌, ◌≤◌, true, false, List};
+ghost use Rattle.std.specs.Prelude.{Option, is_some, length, slice_index_or};
+ghost use Rattle.std.specs.List.{list_any};
 ghost use Rattle.fp_ports.specs.PluggedPorts.{Row};
 ghost use Rattle.slot_scheduler.specs.ModeWord.{is_active, mode_of};
 ghost use Rattle.timer_unit.specs.Time.{time};
@@ -9,12 +10,15 @@ ghost use Rattle.core_model.specs.Cycles.{cycles_to_m};
 ghost use Rattle.core_model.specs.World.{Start};
 ghost use Rattle.pipe_model.specs.PipelineLaws.{empty};
 ghost use Rattle.pipeline_core.specs.Abstraction.{abstract_stages};
-ghost use Rattle.machine.specs.Sleeping.{NobodyAwake, PassedOver, SleepsOn};
-ghost use Rattle.machine.specs.WorldRelation.{Refines};
+ghost use Rattle.pipeline_core.specs.Abstraction.{registers_in};
+ghost use Rattle.pipe_model.specs.declared.stage_registers.Held.{Held};
+ghost use Rattle.pipe_model.specs.declared.stage_registers.Written.{Written};
+ghost use Rattle.machine.specs.Sleeping.{NobodyAwake, PassedOver, PassedOverWith, SleepsOn};
+ghost use Rattle.machine.specs.WorldRelation.{Refines, RefinesWith};
 
 use crate::state::Machine;
 use pipe_model::Held;
-use pipeline_core::Pipe;
+use pipeline_core::{Pipe, Stages};
 
 /// In a cycle with an empty pipeline and no thread awake nothing changes, and no event retires. The
 /// contract states the theorem; the call does nothing.
@@ -61,9 +65,64 @@ impl Machine {
             → length ports ≡ 8 → Refines s self.old.at n self.old ports
             → PassedOver s self.old.at n self.new ports }
     {
-        if self.is_empty() && !self.loses_ports() {
-            self.at = self.at.max(self.first_awake_cycle().min(end));
+        if self.is_empty() {
+            self.at = self.end_of_sleep(end);
         }
+    }
+
+    /// Does the same as [`skip_sleep`](Machine::skip_sleep) with the stage registers in `stages`.
+    /// The turn in `w` isn't among them. It may be any before, and is a bubble after a skipped
+    /// cycle.
+    #[inline(always)]
+    pub(crate) fn skip_sleep_of(&mut self, stages: &Stages, end: u64)
+        requires { self.old.at ≤ end }
+        ensures on { self.old.at ≤ self.new.at }
+        ensures end { self.new.at ≤ end }
+        ensures same { self.new ≡ record self.old { at = self.new.at } }
+        ensures passed { (s : Start) (n : ℕ) (ports : List (Option Row)) (w : Held Written)
+            → end ≤ n + cycles_to_m → length ports ≡ 8
+            → RefinesWith s self.old.at n (registers_in stages.now w) self.old ports
+            → (v : Held Written)
+            × PassedOverWith s self.old.at n (registers_in stages.now v) self.new ports }
+    {
+        if stages.f.is_bubble() {
+            self.skip_empty_of(stages, end);
+        }
+    }
+
+    /// The same, if the cycle before picked no thread.
+    #[cold]
+    #[inline(never)]
+    fn skip_empty_of(&mut self, stages: &Stages, end: u64)
+        requires { self.old.at ≤ end }
+        ensures on { self.old.at ≤ self.new.at }
+        ensures end { self.new.at ≤ end }
+        ensures same { self.new ≡ record self.old { at = self.new.at } }
+        ensures passed { (s : Start) (n : ℕ) (ports : List (Option Row)) (w : Held Written)
+            → end ≤ n + cycles_to_m → length ports ≡ 8
+            → RefinesWith s self.old.at n (registers_in stages.now w) self.old ports
+            → (v : Held Written)
+            × PassedOverWith s self.old.at n (registers_in stages.now v) self.new ports }
+    {
+        if stages.is_empty() {
+            self.at = self.end_of_sleep(end);
+        }
+    }
+
+    /// The first cycle, at most `end`, in which a thread may be awake. It is the current cycle if
+    /// any port is ever removed.
+    fn end_of_sleep(&self, end: u64) -> u64
+        requires { self.now.at ≤ end }
+        ensures from { self.now.at ≤ result }
+        ensures end { result ≤ end }
+        ensures asleep { (c : ℕ) → self.now.at ≤ c → c < result
+            → NobodyAwake self.now.units.sched (time self.now.units.clock c) }
+        ensures ports { self.now.at < result → list_any is_some self.now.unplugs ≡ false }
+    {
+        if self.loses_ports() {
+            return self.at;
+        }
+        self.at.max(self.first_awake_cycle().min(end))
     }
 
     /// Whether the pipeline is empty.

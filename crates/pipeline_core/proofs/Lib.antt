@@ -5,3 +5,5 @@ pub mod Forwarding
 pub mod Refining
 pub mod Issue
 pub mod Stepping
+pub mod Turns
+pub mod StageTurns

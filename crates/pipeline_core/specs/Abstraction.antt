@@ -12,12 +12,20 @@ use Rattle.timer_unit.specs.Time.{time}
 use Rattle.pipe_model.specs.declared.stage_registers.Held.{Held}
 use Rattle.pipe_model.specs.declared.stage_registers.Decoded.{Decoded}
 use Rattle.pipe_model.specs.Stages.{StageRegisters, Control, State, Ticked, After, execute_stage}
+use Rattle.pipe_model.specs.declared.stage_registers.Written.{Written}
 use Rattle.pipeline_core.specs.declared.pipe.Pipe.{Pipe}
+use Rattle.pipeline_core.specs.declared.stages.Stages.{Stages}
+use Rattle.pipeline_core.specs.Turns.{held}
 use Rattle.pipeline_core.specs.declared.units.Units.{Units}
 
 -- the stage registers, and the pc that each thread fetches next
 abbrev pub abstract_stages : Pipe → StageRegisters
 abstract_stages p = record { next = p.next; f = p.f; d = p.d; e = p.e; m = p.m; w = p.w }
+
+-- the next pcs and the stage registers as the stages use them, with a turn in w
+abbrev pub registers_in : Stages → Held Written → StageRegisters
+registers_in s w =
+    record { next = s.next; f = held s.f; d = held s.d; e = held s.e; m = held s.m; w = w }
 
 -- the configuration registers
 abbrev pub abstract_registers : Sched → Guard → Registers
@@ -51,6 +59,9 @@ abstract_state u ports =
     }
 
 -- the state after a cycle, and the event that the cycle returned
+abbrev pub ticked_with : StageRegisters → Units → List (Option Row) → Option Event → Ticked
+ticked_with p u ports event =
+    record { stage_registers = p; state = abstract_state u ports; event = event }
+
 abbrev pub abstract_ticked : Pipe → Units → List (Option Row) → Option Event → Ticked
-abstract_ticked p u ports event =
-    record { stage_registers = abstract_stages p; state = abstract_state u ports; event = event }
+abstract_ticked p u ports event = ticked_with (abstract_stages p) u ports event

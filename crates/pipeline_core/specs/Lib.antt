@@ -1,4 +1,5 @@
 pub mod StageFacts
+pub mod Turns
 pub mod Abstraction
 pub use Rattle.core_model.specs.Cycles
 pub use Rattle.core_model.specs.Memory
@@ -17,3 +18,4 @@ pub use Rattle.slot_scheduler.specs.Picking
 pub use Rattle.timer_unit.specs.Time
 pub use Rattle.core_model.specs.World
 pub use Rattle.rv_exec.specs.Line
+pub use Rattle.pipe_model.specs.declared.stage_registers.Written

@@ -8,15 +8,17 @@ ghost use Rattle.core_model.specs.Issue.{source_1, source_2};
 ghost use Rattle.core_model.specs.Cycles.{cycles_to_d};
 ghost use Rattle.regfile_bank.specs.Registers.{registers_of};
 ghost use Rattle.pipe_model.specs.declared.stage_registers.Held.TheVariants.{Issue};
-ghost use Rattle.pipe_model.specs.Forwarding.{forward, from_m, from_e, operand};
+ghost use Rattle.pipeline_core.specs.Turns.{held};
+ghost use Rattle.pipe_model.specs.Forwarding.{forward, from_m, operand};
 ghost use Rattle.pipe_model.specs.Stages.{flushes_d, decode_stage};
 ghost use Rattle.pipeline_core.specs.StageFacts.{EffectFits, FetchedFits, DecodedFits};
 ghost use Rattle.pipeline_core.specs.StageFacts.{ExecutedFits, StoredFits};
 
+use crate::stage_register::StageRegister;
 use crate::units::Units;
 use core_model::CYCLES_TO_D;
 use hart_exec::sources_in;
-use pipe_model::{Decoded, Executed, Fetched, Held, Redirect, Stored};
+use pipe_model::{Decoded, Executed, Fetched, Redirect, Stored};
 use regfile_bank::Bank;
 use rv_exec::Effect;
 
@@ -44,22 +46,22 @@ fn newer(effect: Option<Effect>, x: u8, older: u32) -> u32
 }
 
 /// Two registers of a thread, from the bank and the turn in `m`.
-fn settled(bank: &Bank, m: &Held<Stored>, thread: u8, x: u8, y: u8) -> (u32, u32)
+fn settled(bank: &Bank, m: &StageRegister<Stored>, thread: u8, x: u8, y: u8) -> (u32, u32)
     requires thread { thread < 8 }
     requires x { x < 32 }
     requires y { y < 32 }
-    requires m { StoredFits m.now }
-    ensures first { result.0 ≡ reg_in (from_m thread m.now (registers_of bank.now thread)) x }
-    ensures second { result.1 ≡ reg_in (from_m thread m.now (registers_of bank.now thread)) y }
+    requires m { StoredFits (held m.now) }
+    ensures first { result.0
+        ≡ reg_in (from_m thread (held m.now) (registers_of bank.now thread)) x }
+    ensures second { result.1
+        ≡ reg_in (from_m thread (held m.now) (registers_of bank.now thread)) y }
     ensures words { length (registers_of bank.now thread) ≡ 31 }
 {
     let (a, b) = (bank.read(thread, x), bank.read(thread, y));
-    match m {
-        Held::Issue {
-            thread: stored,
-            what,
-        } if *stored == thread => (newer(what.effect, x, a), newer(what.effect, y, b)),
-        _ => (a, b),
+    if m.turn == thread {
+        (newer(m.what.effect, x, a), newer(m.what.effect, y, b))
+    } else {
+        (a, b)
     }
 }
 
@@ -67,8 +69,8 @@ fn settled(bank: &Bank, m: &Held<Stored>, thread: u8, x: u8, y: u8) -> (u32, u32
 #[tactic(auto, using(crate::proofs::Forwarding::from_m_length))]
 fn sources(
     bank: &Bank,
-    m: &Held<Stored>,
-    e: &Held<Executed>,
+    m: &StageRegister<Stored>,
+    e: &StageRegister<Executed>,
     thread: u8,
     x: u8,
     y: u8,
@@ -76,18 +78,16 @@ fn sources(
     requires thread { thread < 8 }
     requires x { x < 32 }
     requires y { y < 32 }
-    requires m { StoredFits m.now }
-    requires e { ExecutedFits e.now }
-    ensures first { result.0 ≡ operand bank.now m.now e.now thread x }
-    ensures second { result.1 ≡ operand bank.now m.now e.now thread y }
+    requires m { StoredFits (held m.now) }
+    requires e { ExecutedFits (held e.now) }
+    ensures first { result.0 ≡ operand bank.now (held m.now) (held e.now) thread x }
+    ensures second { result.1 ≡ operand bank.now (held m.now) (held e.now) thread y }
 {
     let (a, b) = settled(bank, m, thread, x, y);
-    match e {
-        Held::Issue {
-            thread: executed,
-            what,
-        } if *executed == thread => (newer(what.effect, x, a), newer(what.effect, y, b)),
-        _ => (a, b),
+    if e.turn == thread {
+        (newer(e.what.effect, x, a), newer(e.what.effect, y, b))
+    } else {
+        (a, b)
     }
 }
 
@@ -108,14 +108,14 @@ fn is_due(units: &Units, cycle: u64, thread: u8) -> bool
 #[inline(always)]
 fn decoded(
     units: &Units,
-    m: &Held<Stored>,
-    e: &Held<Executed>,
+    m: &StageRegister<Stored>,
+    e: &StageRegister<Executed>,
     cycle: u64,
     thread: u8,
     x: &Fetched,
 ) -> Decoded
-    requires m { StoredFits m.now }
-    requires e { ExecutedFits e.now }
+    requires m { StoredFits (held m.now) }
+    requires e { ExecutedFits (held e.now) }
     requires cycle { cycle < most_cycles }
     requires thread { thread < 8 }
     ensures { result ≡ record {
@@ -123,8 +123,8 @@ fn decoded(
       word = x.now.word;
       expired = is_due (timer_of units.now.timers thread).armed
           (time units.now.clock (cycle - cycles_to_d));
-      a = operand units.now.bank m.now e.now thread (source_1 (ins x.now.word));
-      b = operand units.now.bank m.now e.now thread (source_2 (ins x.now.word));
+      a = operand units.now.bank (held m.now) (held e.now) thread (source_1 (ins x.now.word));
+      b = operand units.now.bank (held m.now) (held e.now) thread (source_2 (ins x.now.word));
     } }
 {
     let (rs1, rs2) = sources_in(x.word);
@@ -138,65 +138,48 @@ fn decoded(
     }
 }
 
-/// Writes an issue to `d`. If an issue is there, as in most cycles, its fields are written one by
-/// one, so that no padding is written.
+/// Writes an issue to `d`, field by field, so that no padding is written.
 #[inline(always)]
-fn put_decoded(thread: u8, what: Decoded, d: &mut Held<Decoded>)
-    ensures { d.new ≡ Issue thread what }
+fn put_decoded(thread: u8, what: Decoded, d: &mut StageRegister<Decoded>)
+    requires { thread < 8 }
+    ensures { held d.new ≡ Issue thread what }
 {
-    if let Held::Issue {
-        thread: of,
-        what: old,
-    } = d
-    {
-        *of = thread;
-        old.pc = what.pc;
-        old.word = what.word;
-        old.expired = what.expired;
-        old.a = what.a;
-        old.b = what.b;
-    } else {
-        *d = Held::Issue { thread, what };
-    }
+    d.turn = thread;
+    d.what.pc = what.pc;
+    d.what.word = what.word;
+    d.what.expired = what.expired;
+    d.what.a = what.a;
+    d.what.b = what.b;
 }
 
 /// Writes the turn to `d`, flushed or with its sources. It also writes whether the thread's armed
-/// moment was reached when the turn was issued, in the cycle before this one. Inlined, as `fetch`
-/// is.
+/// moment was reached when the turn was issued, in the cycle before this one. Inlined, as
+/// `fetch_stage` is.
 #[tactic(auto, unfolding(pipe_model::specs::Stages::decode_stage))]
 #[inline(always)]
 pub fn decode_stage(
     units: &Units,
-    m: &Held<Stored>,
-    e: &Held<Executed>,
+    m: &StageRegister<Stored>,
+    e: &StageRegister<Executed>,
     redirect: Option<Redirect>,
     cycle: u64,
-    held: &Held<Fetched>,
-    d: &mut Held<Decoded>,
+    f: &StageRegister<Fetched>,
+    d: &mut StageRegister<Decoded>,
 )
-    requires m { StoredFits m.now }
-    requires e { ExecutedFits e.now }
-    requires f { FetchedFits held.now }
+    requires m { StoredFits (held m.now) }
+    requires e { ExecutedFits (held e.now) }
+    requires f { FetchedFits (held f.now) }
     requires cycle { cycle < most_cycles }
-    ensures stage { d.new ≡ decode_stage units.now.bank m.now e.now units.now.timers redirect
-        (time units.now.clock (cycle - cycles_to_d)) held.now }
-    ensures fits { DecodedFits d.new }
+    ensures stage { held d.new ≡ decode_stage units.now.bank (held m.now) (held e.now)
+        units.now.timers redirect (time units.now.clock (cycle - cycles_to_d)) (held f.now) }
+    ensures fits { DecodedFits (held d.new) }
 {
-    let (thread, x) = match held {
-        Held::Bubble => {
-            *d = Held::Bubble;
-            return;
-        }
-        Held::Flushed { thread } => {
-            *d = Held::Flushed { thread: *thread };
-            return;
-        }
-        Held::Issue { thread, what } => (*thread, what),
-    };
-    if flushes_d(thread, redirect) {
-        *d = Held::Flushed { thread };
-        return;
+    if !f.is_issue() {
+        d.pass(f);
+    } else if flushes_d(f.turn, redirect) {
+        d.flush(f.turn);
+    } else {
+        let what = decoded(units, m, e, cycle, f.turn, &f.what);
+        put_decoded(f.turn, what, d);
     }
-    let what = decoded(units, m, e, cycle, thread, x);
-    put_decoded(thread, what, d);
 }

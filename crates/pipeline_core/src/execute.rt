@@ -1,7 +1,7 @@
 //! E: instructions are executed, but for late values.
 
 ghost use Rattle.std.specs.Prelude.{◌≡◌, ◌-◌, ◌<◌, ◌%◌, ◌==◌, if◌then◌else◌};
-ghost use Rattle.std.specs.Prelude.{List, Option, Some, None, IfSome, is_some, length, true};
+ghost use Rattle.std.specs.Prelude.{List, Option, Some, None, IfSome, is_some, true};
 ghost use Rattle.core_model.specs.Issue.{execute_in};
 ghost use Rattle.core_model.specs.Thread.{no_own};
 ghost use Rattle.rv_decode.specs.Table.{ins};
@@ -16,14 +16,16 @@ ghost use Rattle.pipe_model.specs.Stages.{execute_stage, executed_of, redirect_o
 ghost use Rattle.pipe_model.specs.declared.stage_registers.Held.TheVariants.{Issue};
 ghost use Rattle.pipe_model.specs.declared.stage_registers.Flush.TheVariants.{Decode};
 ghost use Rattle.pipe_model.specs.declared.stage_registers.Flush.TheVariants.{DecodeAndFetch};
-ghost use Rattle.pipeline_core.specs.StageFacts.{IsPc, EffectFits, DecodedFits};
+ghost use Rattle.pipeline_core.specs.Turns.{held};
+ghost use Rattle.pipeline_core.specs.StageFacts.{IsPc, DecodedFits};
 ghost use Rattle.pipeline_core.specs.StageFacts.{ExecutedFits, RedirectFits};
 ghost use Rattle.pipeline_core.specs.Abstraction.{executed_by, abstract_state};
 
+use crate::stage_register::StageRegister;
 use crate::units::Units;
 use core_model::CYCLES_TO_E;
 use hart_exec::{ExecResult, Hart, PcWord, Sources, execute_frequent, execute_in};
-use pipe_model::{Decoded, Executed, Flush, Held, Redirect};
+use pipe_model::{Decoded, Executed, Flush, Redirect};
 use rv_decode::{LATE_LAG, PLAIN_LAG};
 use rv_exec::Effect;
 
@@ -80,22 +82,23 @@ fn shown(x: &Decoded, done: &ExecResult) -> Decoded
 /// Writes an executed instruction to `e`. The two most frequent effects have arms of their own, so
 /// that only the variant's own fields are copied; their words are shown.
 #[inline(always)]
-fn put_executed(thread: u8, x: &Decoded, done: &ExecResult, e: &mut Held<Executed>)
-    requires { HasWord done.now.effect done.now.word }
-    ensures { e.new ≡ Issue thread (executed_of x.now (abstract_result no_own done.now)) }
+fn put_executed(thread: u8, x: &Decoded, done: &ExecResult, e: &mut StageRegister<Executed>)
+    requires thread { thread < 8 }
+    requires shown { HasWord done.now.effect done.now.word }
+    ensures { held e.new ≡ Issue thread (executed_of x.now (abstract_result no_own done.now)) }
 {
     match done.effect {
         Some(Effect::Reg { rd, value }) => {
             let what = executed_of(x, done, Some(Effect::Reg { rd, value }));
-            *e = Held::Issue { thread, what };
+            e.put(thread, what);
         }
         Some(Effect::Nothing) => {
             let what = executed_of(x, done, Some(Effect::Nothing));
-            *e = Held::Issue { thread, what };
+            e.put(thread, what);
         }
         effect => {
             let what = executed_of(&shown(x, done), done, effect);
-            *e = Held::Issue { thread, what };
+            e.put(thread, what);
         }
     }
 }
@@ -108,13 +111,13 @@ fn leave(
     thread: u8,
     x: &Decoded,
     done: &ExecResult,
-    e: &mut Held<Executed>,
+    e: &mut StageRegister<Executed>,
     redirect: &mut Redirect,
 ) -> bool
     requires thread { thread < 8 }
     requires pc { IsPc done.now.pc }
     requires shown { HasWord done.now.effect done.now.word }
-    ensures e { e.new ≡ Issue thread (executed_of x.now (abstract_result no_own done.now)) }
+    ensures e { held e.new ≡ Issue thread (executed_of x.now (abstract_result no_own done.now)) }
     ensures redirect { redirect_of thread (abstract_result no_own done.now)
         ≡ (if result then Some redirect.new else None) }
     ensures fits { RedirectFits (if result then Some redirect.new else None) }
@@ -170,7 +173,7 @@ fn execute_issue<const RARE: bool, const LOOP: u8>(
     cycle: u64,
     thread: u8,
     x: &Decoded,
-    e: &mut Held<Executed>,
+    e: &mut StageRegister<Executed>,
     redirect: &mut Redirect,
 ) -> Option<bool>
     requires thread { thread < 8 }
@@ -179,7 +182,7 @@ fn execute_issue<const RARE: bool, const LOOP: u8>(
     ensures all { RARE ≡ true → is_some result ≡ true }
     ensures left { result ≡ None → units.new ≡ units.old }
     ensures e { IfSome result (λ flushes.
-        e.new ≡ (executed_by units.old cycle (Issue thread x.now)).e) }
+        held e.new ≡ (executed_by units.old cycle (Issue thread x.now)).e) }
     ensures redirect { IfSome result (λ flushes.
         (executed_by units.old cycle (Issue thread x.now)).redirect
         ≡ (if flushes then Some redirect.new else None)) }
@@ -187,7 +190,7 @@ fn execute_issue<const RARE: bool, const LOOP: u8>(
         → abstract_state units.new ports ≡ record (abstract_state units.old ports) {
           control = (executed_by units.old cycle (Issue thread x.now)).control;
         }) }
-    ensures fits { IfSome result (λ flushes. ExecutedFits e.new) }
+    ensures fits { IfSome result (λ flushes. ExecutedFits (held e.new)) }
     ensures redirect_fits { IfSome result (λ flushes.
         RedirectFits (if flushes then Some redirect.new else None)) }
 {
@@ -219,18 +222,18 @@ fn execute_rare(
     cycle: u64,
     thread: u8,
     x: &Decoded,
-    e: &mut Held<Executed>,
+    e: &mut StageRegister<Executed>,
 ) -> Option<Redirect>
     requires thread { thread < 8 }
     requires cycle { cycle < most_cycles }
     requires pc { IsPc x.now.pc }
-    ensures e { e.new ≡ (executed_by units.old cycle (Issue thread x.now)).e }
+    ensures e { held e.new ≡ (executed_by units.old cycle (Issue thread x.now)).e }
     ensures redirect { (executed_by units.old cycle (Issue thread x.now)).redirect ≡ result }
     ensures units { (ports : List (Option Row)) → abstract_state units.new ports
         ≡ record (abstract_state units.old ports) {
           control = (executed_by units.old cycle (Issue thread x.now)).control;
         } }
-    ensures fits { ExecutedFits e.new }
+    ensures fits { ExecutedFits (held e.new) }
     ensures redirect_fits { RedirectFits result }
 {
     let mut redirect = Redirect {
@@ -253,20 +256,20 @@ fn execute_out_of_line(
     cycle: u64,
     thread: u8,
     x: &Decoded,
-    e: &mut Held<Executed>,
+    e: &mut StageRegister<Executed>,
     redirect: &mut Redirect,
 ) -> bool
     requires thread { thread < 8 }
     requires cycle { cycle < most_cycles }
     requires pc { IsPc x.now.pc }
-    ensures e { e.new ≡ (executed_by units.old cycle (Issue thread x.now)).e }
+    ensures e { held e.new ≡ (executed_by units.old cycle (Issue thread x.now)).e }
     ensures redirect { (executed_by units.old cycle (Issue thread x.now)).redirect
         ≡ (if result then Some redirect.new else None) }
     ensures units { (ports : List (Option Row)) → abstract_state units.new ports
         ≡ record (abstract_state units.old ports) {
           control = (executed_by units.old cycle (Issue thread x.now)).control;
         } }
-    ensures fits { ExecutedFits e.new }
+    ensures fits { ExecutedFits (held e.new) }
     ensures redirect_fits { RedirectFits (if result then Some redirect.new else None) }
 {
     let Some(to) = execute_rare(units, cycle, thread, x, e) else {
@@ -283,20 +286,20 @@ fn execute_turn<const LOOP: u8>(
     cycle: u64,
     thread: u8,
     x: &Decoded,
-    e: &mut Held<Executed>,
+    e: &mut StageRegister<Executed>,
     redirect: &mut Redirect,
 ) -> bool
     requires thread { thread < 8 }
     requires cycle { cycle < most_cycles }
     requires pc { IsPc x.now.pc }
-    ensures e { e.new ≡ (executed_by units.old cycle (Issue thread x.now)).e }
+    ensures e { held e.new ≡ (executed_by units.old cycle (Issue thread x.now)).e }
     ensures redirect { (executed_by units.old cycle (Issue thread x.now)).redirect
         ≡ (if result then Some redirect.new else None) }
     ensures units { (ports : List (Option Row)) → abstract_state units.new ports
         ≡ record (abstract_state units.old ports) {
           control = (executed_by units.old cycle (Issue thread x.now)).control;
         } }
-    ensures fits { ExecutedFits e.new }
+    ensures fits { ExecutedFits (held e.new) }
     ensures redirect_fits { RedirectFits (if result then Some redirect.new else None) }
 {
     match execute_issue::<false, LOOP>(units, cycle, thread, x, e, redirect) {
@@ -313,33 +316,25 @@ fn execute_turn<const LOOP: u8>(
 pub fn execute_stage<const LOOP: u8>(
     units: &mut Units,
     cycle: u64,
-    held: &Held<Decoded>,
-    e: &mut Held<Executed>,
+    d: &StageRegister<Decoded>,
+    e: &mut StageRegister<Executed>,
     redirect: &mut Redirect,
 ) -> bool
-    requires fits { DecodedFits held.now }
+    requires fits { DecodedFits (held d.now) }
     requires cycle { cycle < most_cycles }
-    ensures e { e.new ≡ (executed_by units.old cycle held.now).e }
-    ensures redirect { (executed_by units.old cycle held.now).redirect
+    ensures e { held e.new ≡ (executed_by units.old cycle (held d.now)).e }
+    ensures redirect { (executed_by units.old cycle (held d.now)).redirect
         ≡ (if result then Some redirect.new else None) }
     ensures units { (ports : List (Option Row)) → abstract_state units.new ports
         ≡ record (abstract_state units.old ports) {
-          control = (executed_by units.old cycle held.now).control;
+          control = (executed_by units.old cycle (held d.now)).control;
         } }
-    ensures fits { ExecutedFits e.new }
+    ensures fits { ExecutedFits (held e.new) }
     ensures redirect_fits { RedirectFits (if result then Some redirect.new else None) }
 {
-    match held {
-        Held::Bubble => {
-            *e = Held::Bubble;
-            false
-        }
-        Held::Flushed { thread } => {
-            *e = Held::Flushed { thread: *thread };
-            false
-        }
-        Held::Issue { thread, what } => {
-            execute_turn::<LOOP>(units, cycle, *thread, what, e, redirect)
-        }
+    if !d.is_issue() {
+        e.pass(d);
+        return false;
     }
+    execute_turn::<LOOP>(units, cycle, d.turn, &d.what, e, redirect)
 }

@@ -4,10 +4,12 @@ ghost use Rattle.std.specs.Prelude.{◌≡◌, ◌/◌, All, Some, length};
 ghost use Rattle.slot_scheduler.specs.Picking.{IsPick};
 ghost use Rattle.pipe_model.specs.Stages.{flushes_f, next_after_redirect};
 ghost use Rattle.pipe_model.specs.Stages.{fetch_stage, next_after_fetch};
+ghost use Rattle.pipeline_core.specs.Turns.{held};
 ghost use Rattle.pipeline_core.specs.StageFacts.{IsPc, FetchedFits, RedirectFits};
 
 use crate::memory::code_word;
-use pipe_model::{Fetched, Flush, Held, Redirect};
+use crate::stage_register::StageRegister;
+use pipe_model::{Fetched, Flush, Redirect};
 use region_guard::Guard;
 use scratchpad::Spm;
 use slot_scheduler::Pick;
@@ -46,31 +48,26 @@ pub fn fetch_stage(
     redirect: Option<Redirect>,
     next: &mut [u32; 8],
     pick: Pick,
-    f: &mut Held<Fetched>,
+    f: &mut StageRegister<Fetched>,
 )
     requires imem { length imem.now ≡ guard.now.size / 4 }
     requires pcs { All IsPc next.old }
     requires pick { IsPick pick }
-    ensures stage { f.new ≡ fetch_stage guard.now.size imem.now redirect next.old pick }
+    ensures stage { held f.new ≡ fetch_stage guard.now.size imem.now redirect next.old pick }
     ensures next { next.new ≡ next_after_fetch redirect pick next.old }
     ensures pcs { All IsPc next.new }
-    ensures fits { FetchedFits f.new }
+    ensures fits { FetchedFits (held f.new) }
 {
     let Pick::Issue { thread } = pick else {
-        *f = Held::Bubble;
+        f.clear();
         return;
     };
     if flushes_f(thread, redirect) {
-        *f = Held::Flushed { thread };
+        f.flush(thread);
         return;
     }
     let pc = next[thread as usize];
     next[thread as usize] = pc.wrapping_add(4);
-    *f = Held::Issue {
-        thread,
-        what: Fetched {
-            pc,
-            word: code_word(guard, imem, pc),
-        },
-    };
+    let word = code_word(guard, imem, pc);
+    f.put(thread, Fetched { pc, word });
 }

@@ -11,13 +11,15 @@ ghost use Rattle.fp_ports.specs.PluggedPorts.{rows_of, row_at, word_seen};
 ghost use Rattle.pipe_model.specs.declared.stage_registers.Held.TheVariants.{Issue};
 ghost use Rattle.rv_exec.specs.declared.outcome.Effect.TheVariants.{Nothing, Reg};
 ghost use Rattle.pipe_model.specs.Stages.{memory_stage, words_stored, ports_stored, put_at_port};
+ghost use Rattle.pipeline_core.specs.Turns.{held};
 ghost use Rattle.pipeline_core.specs.StageFacts.{EffectFits, ExecutedFits, StoredFits};
 ghost use Rattle.pipeline_core.specs.StageFacts.{at_port, loads_port, uses_port};
 
 use crate::memory::{data_word, store_word};
+use crate::stage_register::StageRegister;
 use fp_ports::{Port, Ports, write_port};
 use hart_exec::{Sources, finish};
-use pipe_model::{Executed, Held, Stored};
+use pipe_model::{Executed, Stored};
 use region_guard::{Guard, PORT_ADDRESS};
 use rv_decode::{Ins, decode};
 use rv_exec::Effect;
@@ -77,44 +79,41 @@ fn stored(x: &Executed, effect: Option<Effect>) -> Stored
 /// Writes to `m` an instruction that writes a register. It is a separate function, so that only
 /// this variant's fields are copied.
 #[inline(always)]
-fn put_register(thread: u8, x: &Executed, rd: u8, value: u32, m: &mut Held<Stored>)
-    ensures { m.new ≡ Issue thread (record {
+fn put_register(thread: u8, x: &Executed, rd: u8, value: u32, m: &mut StageRegister<Stored>)
+    requires { thread < 8 }
+    ensures { held m.new ≡ Issue thread (record {
       pc = x.now.pc;
       word = x.now.word;
       effect = Some (Reg rd value);
     }) }
 {
     let what = stored(x, Some(Effect::Reg { rd, value }));
-    *m = Held::Issue { thread, what };
+    m.put(thread, what);
 }
 
 /// Writes to `m` an instruction with its effect after E. The effect is copied as a slice of one
 /// element, without a case for each variant.
 #[inline(always)]
-fn put_same(thread: u8, x: &Executed, m: &mut Held<Stored>)
-    ensures { m.new ≡ Issue thread (record {
+fn put_same(thread: u8, x: &Executed, m: &mut StageRegister<Stored>)
+    requires { thread < 8 }
+    ensures { held m.new ≡ Issue thread (record {
       pc = x.now.pc;
       word = x.now.word;
       effect = x.now.effect;
     }) }
 {
-    if !matches!(m, Held::Issue { .. }) {
-        let what = stored(x, None);
-        *m = Held::Issue { thread, what };
-    }
-    if let Held::Issue { thread: of, what } = m {
-        *of = thread;
-        what.pc = x.pc;
-        what.word = x.word;
-        from_mut(&mut what.effect).copy_from_slice(from_ref(&x.effect));
-    }
+    m.turn = thread;
+    m.what.pc = x.pc;
+    m.what.word = x.word;
+    from_mut(&mut m.what.effect).copy_from_slice(from_ref(&x.effect));
 }
 
 /// Writes to `m` an instruction whose value may have come late. Its effect is `Reg` or `Nothing`,
 /// and only the variant's own fields are copied.
 #[inline(always)]
-fn put_late(thread: u8, x: &Executed, effect: Option<Effect>, m: &mut Held<Stored>)
-    ensures { m.new ≡ Issue thread (record {
+fn put_late(thread: u8, x: &Executed, effect: Option<Effect>, m: &mut StageRegister<Stored>)
+    requires { thread < 8 }
+    ensures { held m.new ≡ Issue thread (record {
       pc = x.now.pc;
       word = x.now.word;
       effect = effect;
@@ -124,11 +123,11 @@ fn put_late(thread: u8, x: &Executed, effect: Option<Effect>, m: &mut Held<Store
         Some(Effect::Reg { rd, value }) => put_register(thread, x, rd, value, m),
         Some(Effect::Nothing) => {
             let what = stored(x, Some(Effect::Nothing));
-            *m = Held::Issue { thread, what };
+            m.put(thread, what);
         }
         effect => {
             let what = stored(x, effect);
-            *m = Held::Issue { thread, what };
+            m.put(thread, what);
         }
     }
 }
@@ -162,19 +161,19 @@ fn access_issue(
     cycle: u64,
     thread: u8,
     x: &Executed,
-    m: &mut Held<Stored>,
+    m: &mut StageRegister<Stored>,
 )
     requires imem { length imem.now ≡ guard.now.size / 4 }
     requires dmem { length dmem.old ≡ guard.now.size / 4 }
     requires eight { vec_len ports.old ≡ 8 }
     requires fits { ExecutedFits (Issue thread x.now) }
-    ensures stage { m.new ≡ memory_stage guard.now.size imem.now dmem.old
+    ensures stage { held m.new ≡ memory_stage guard.now.size imem.now dmem.old
         (rows_of latched word_at ports.old.items) (cycle - cycles_to_m) (Issue thread x.now) }
-    ensures fits { StoredFits m.new }
-    ensures words { dmem.new ≡ words_stored guard.now.size m.new dmem.old }
+    ensures fits { StoredFits (held m.new) }
+    ensures words { dmem.new ≡ words_stored guard.now.size (held m.new) dmem.old }
     ensures length { length dmem.new ≡ length dmem.old }
     ensures rows { rows_of latched word_at ports.new.items ≡
-        ports_stored m.new (rows_of latched word_at ports.old.items) }
+        ports_stored (held m.new) (rows_of latched word_at ports.old.items) }
     ensures idle { uses_port guard.now.size (Issue thread x.now) ≡ false → ports.new ≡ ports.old }
     ensures eight { vec_len ports.new ≡ 8 }
 {
@@ -212,28 +211,26 @@ pub fn memory_stage(
     dmem: &mut Spm,
     ports: &mut Ports,
     cycle: u64,
-    held: &Held<Executed>,
-    m: &mut Held<Stored>,
+    e: &StageRegister<Executed>,
+    m: &mut StageRegister<Stored>,
 )
     requires imem { length imem.now ≡ guard.now.size / 4 }
     requires dmem { length dmem.old ≡ guard.now.size / 4 }
     requires eight { vec_len ports.old ≡ 8 }
-    requires fits { ExecutedFits held.now }
-    ensures stage { m.new ≡ memory_stage guard.now.size imem.now dmem.old
-        (rows_of latched word_at ports.old.items) (cycle - cycles_to_m) held.now }
-    ensures fits { StoredFits m.new }
-    ensures words { dmem.new ≡ words_stored guard.now.size m.new dmem.old }
+    requires fits { ExecutedFits (held e.now) }
+    ensures stage { held m.new ≡ memory_stage guard.now.size imem.now dmem.old
+        (rows_of latched word_at ports.old.items) (cycle - cycles_to_m) (held e.now) }
+    ensures fits { StoredFits (held m.new) }
+    ensures words { dmem.new ≡ words_stored guard.now.size (held m.new) dmem.old }
     ensures length { length dmem.new ≡ length dmem.old }
     ensures rows { rows_of latched word_at ports.new.items ≡
-        ports_stored m.new (rows_of latched word_at ports.old.items) }
-    ensures idle { uses_port guard.now.size held.now ≡ false → ports.new ≡ ports.old }
+        ports_stored (held m.new) (rows_of latched word_at ports.old.items) }
+    ensures idle { uses_port guard.now.size (held e.now) ≡ false → ports.new ≡ ports.old }
     ensures eight { vec_len ports.new ≡ 8 }
 {
-    match held {
-        Held::Bubble => *m = Held::Bubble,
-        Held::Flushed { thread } => *m = Held::Flushed { thread: *thread },
-        Held::Issue { thread, what } => {
-            access_issue(guard, imem, dmem, ports, cycle, *thread, what, m);
-        }
+    if e.is_issue() {
+        access_issue(guard, imem, dmem, ports, cycle, e.turn, &e.what, m);
+    } else {
+        m.pass(e);
     }
 }

@@ -3,34 +3,36 @@
 ghost use Rattle.std.specs.Prelude.{◌≡◌, ◌-◌, ◌<◌, [], slice_index_or, slice_set};
 ghost use Rattle.core_model.specs.Thread.{reg_set, regs_after};
 ghost use Rattle.pipe_model.specs.Stages.{bank_after, writeback_stage, retired_event};
+ghost use Rattle.pipeline_core.specs.Turns.{held};
 ghost use Rattle.pipeline_core.specs.StageFacts.{EffectFits, StoredFits};
 ghost use Rattle.pipeline_core.specs.StageFacts.{WrittenFits};
 ghost use Rattle.rv_exec.specs.Line.{IsPrintableEvent};
 ghost use Rattle.core_model.specs.Cycles.{cycles_to_w};
 
+use crate::stage_register::StageRegister;
 use core_model::CYCLES_TO_W;
 use pipe_model::{Held, Stored, Written};
 use regfile_bank::Bank;
 use rv_exec::{Effect, Event};
 
-/// The event that retires in a cycle, if there is one: the event of the turn in W, which was issued
-/// [`CYCLES_TO_W`] cycles ago.
+/// The event that retires in a cycle, if there is one: the event of the turn in `m`, which was
+/// issued [`CYCLES_TO_W`] cycles ago.
 #[inline(always)]
 #[tactic(auto, unfolding(pipe_model::specs::Stages::retired_event))]
-pub fn retire(held: &Held<Stored>, cycle: u64) -> Option<Event>
-    requires { StoredFits held.now }
-    ensures event { result ≡ retired_event (cycle - cycles_to_w) held.now }
+pub fn retire(m: &StageRegister<Stored>, cycle: u64) -> Option<Event>
+    requires { StoredFits (held m.now) }
+    ensures event { result ≡ retired_event (cycle - cycles_to_w) (held m.now) }
     ensures printable { IsPrintableEvent result }
 {
-    let Held::Issue { thread, what } = held else {
+    if !m.is_issue() {
         return None;
-    };
+    }
     Some(Event {
         cycle: cycle.saturating_sub(CYCLES_TO_W),
-        thread: *thread,
-        pc: what.pc,
-        word: what.word,
-        effect: what.effect?,
+        thread: m.turn,
+        pc: m.what.pc,
+        word: m.what.word,
+        effect: m.what.effect?,
     })
 }
 
@@ -65,47 +67,34 @@ fn write_register(bank: &mut Bank, thread: u8, effect: &Option<Effect>)
     }
 }
 
-/// Writes the turn to `w`. It isn't inlined, so that W, which writes an issue itself, separates
-/// issues from all other turns by one test.
-#[inline(never)]
-#[tactic(auto, unfolding(pipe_model::specs::Stages::writeback_stage))]
-fn leave_written(held: &Held<Stored>, w: &mut Held<Written>)
-    requires { StoredFits held.now }
-    ensures stage { w.new ≡ writeback_stage held.now }
-    ensures fits { WrittenFits w.new }
+/// Writes the register of the turn's effect, if it has one.
+#[inline(always)]
+#[tactic(auto, unfolding(crate::proofs::Opened::writing_back))]
+pub fn write_back(bank: &mut Bank, m: &StageRegister<Stored>)
+    requires { StoredFits (held m.now) }
+    ensures { bank.new ≡ bank_after (held m.now) bank.old }
 {
-    *w = match held {
+    if m.is_issue() {
+        write_register(bank, m.turn, &m.what.effect);
+    }
+}
+
+/// The turn that W leaves in `w`.
+#[tactic(auto, unfolding(pipe_model::specs::Stages::writeback_stage))]
+pub fn written(m: &StageRegister<Stored>) -> Held<Written>
+    requires { StoredFits (held m.now) }
+    ensures stage { result ≡ writeback_stage (held m.now) }
+    ensures fits { WrittenFits result }
+{
+    match m.held() {
         Held::Bubble => Held::Bubble,
-        Held::Flushed { thread } => Held::Flushed { thread: *thread },
+        Held::Flushed { thread } => Held::Flushed { thread },
         Held::Issue { thread, what } => Held::Issue {
-            thread: *thread,
+            thread,
             what: Written {
                 pc: what.pc,
                 word: what.word,
             },
         },
-    };
-}
-
-/// Writes the register of the turn's effect, if it has one, and writes the turn to `w`.
-#[inline(always)]
-#[tactic(auto, unfolding(crate::proofs::Opened::writing_back))]
-pub fn writeback_stage(bank: &mut Bank, held: &Held<Stored>, w: &mut Held<Written>)
-    requires { StoredFits held.now }
-    ensures bank { bank.new ≡ bank_after held.now bank.old }
-    ensures stage { w.new ≡ writeback_stage held.now }
-    ensures fits { WrittenFits w.new }
-{
-    if let Held::Issue { thread, what } = held {
-        write_register(bank, *thread, &what.effect);
-        *w = Held::Issue {
-            thread: *thread,
-            what: Written {
-                pc: what.pc,
-                word: what.word,
-            },
-        };
-    } else {
-        leave_written(held, w);
     }
 }

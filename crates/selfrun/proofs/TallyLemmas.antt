@@ -15,7 +15,11 @@ use Rattle.trace_print.specs.Text.{line_text, text}
 use Rattle.core_model.specs.World.{Start, recent, world, events}
 use Rattle.pipe_model.specs.Relation.{of_thread, event_in, turn_at}
 use Rattle.pipe_model.specs.PipelineLaws.{EventsGrow}
-use Rattle.machine.specs.WorldRelation.{Refines, Ticks, start_beside}
+use Rattle.pipe_model.specs.declared.stage_registers.Held.{Held}
+use Rattle.pipe_model.specs.declared.stage_registers.Written.{Written}
+use Rattle.pipeline_core.specs.declared.stages.Stages.{Stages}
+use Rattle.pipeline_core.specs.Abstraction.{abstract_stages, registers_in}
+use Rattle.machine.specs.WorldRelation.{Refines, RefinesWith, TicksWith, start_beside}
 use Rattle.fp_image.specs.declared.parts.Segment.{Segment}
 use Rattle.fp_setup.specs.Settings.{Settings}
 use Rattle.fp_setup.specs.Plain.{plain_threads}
@@ -117,35 +121,44 @@ no_events : (s : Start) (i : ℕ) → events s i 0 ≡ []
 unfolding world recent
 no_events s i = refl
 
-pub tallies_begin : (s : Start) (n : ℕ) (m : Machine) (rows : List (Option Row)) (ts : List Tally) →
-    ts ≡ map (λ k. no_tally) the_threads → Refines s 0 n m rows → HasTallied s 0 n m rows ts
-tallies_begin s n m rows ts none st =
+pub tallies_begin : (s : Start) (n : ℕ) (stages : Stages) (m : Machine) (rows : List (Option Row))
+    (ts : List Tally) → ts ≡ map (λ k. no_tally) the_threads →
+    registers_in stages m.pipe.w ≡ abstract_stages m.pipe → Refines s 0 n m rows →
+    HasTallied s 0 n stages m rows ts
+tallies_begin s n stages m rows ts none same_stages st =
     let zero_of : (k : ℕ) → tally_of (events s k 0) ≡ no_tally =
     λ k. ap tally_of (no_events s k) ∙ tally-nil in
     let same : map (λ k. tally_of (events s k 0)) (range_with_len 0 8)
     ≡ slice_set (map (λ k. no_tally) (range_with_len 0 8)) 8 no_tally =
     one_changed (λ k. no_tally) (λ k. tally_of (events s k 0)) no_tally 0 8 8
     (λ k ne. zero_of k) (λ below. zero_of 8) in
-    record { refines = st; are = none ∙ sym same }
+    record {
+      w = m.pipe.w;
+      refines = subst (λ p. RefinesWith s 0 n p m rows) (sym same_stages) st;
+      are = none ∙ sym same;
+    }
 
 -- one more cycle
-pub tallies_on : EventsGrow → (s : Start) (k n : ℕ) (m after : Machine)
-    (rows new : List (Option Row)) (ts : List Tally) (event : Option Event) →
-    HasTallied s k n m rows ts → m.at ≡ k →
-    (Refines s m.at n m rows → Ticks s m.at n rows after new event) →
-    HasTallied s (k + 1) n after new (tallies_with ts event)
-tallies_on grows s k n m after rows new ts event run at tick =
-    let At : ℕ → Type 0 = λ c. Refines s c n m rows in
-    let After : ℕ → Type 0 = λ c. Ticks s c n rows after new event in
-    let ticked : Ticks s k n rows after new event =
-    subst After at (tick (subst At (sym at) run.refines)) in
-    let done : HasTallied s (suc k) n after new (tallies_with ts event) = record {
+pub tallies_on : EventsGrow → (s : Start) (k n : ℕ) (stages next : Stages) (written : Held Written)
+    (m after : Machine) (rows new : List (Option Row)) (ts : List Tally) (event : Option Event) →
+    HasTallied s k n stages m rows ts → m.at ≡ k →
+    ((w : Held Written) → RefinesWith s m.at n (registers_in stages w) m rows →
+    TicksWith s m.at n rows (registers_in next written) after new event) →
+    HasTallied s (k + 1) n next after new (tallies_with ts event)
+tallies_on grows s k n stages next written m after rows new ts event run at tick =
+    let At : ℕ → Type 0 = λ c. RefinesWith s c n (registers_in stages run.w) m rows in
+    let After : ℕ → Type 0 =
+    λ c. TicksWith s c n rows (registers_in next written) after new event in
+    let ticked : TicksWith s k n rows (registers_in next written) after new event =
+    subst After at (tick run.w (subst At (sym at) run.refines)) in
+    let done : HasTallied s (suc k) n next after new (tallies_with ts event) = record {
+      w = written;
       refines = ticked.refines;
       are =
           ap (λ xs. tallies_with xs event) run.are
           ∙ sym (next_tallies grows s k event ticked.event_is);
     } in
-    let Run : ℕ → Type 0 = λ c. HasTallied s c n after new (tallies_with ts event) in
+    let Run : ℕ → Type 0 = λ c. HasTallied s c n next after new (tallies_with ts event) in
     subst Run (sym (add-one k)) done
 
 few_set : (ts : List Tally) (i : ℕ) (v : Tally) (most : ℕ) → AreFew ts most → v.events ≤ most →
@@ -213,6 +226,6 @@ own_run number n setup image rows m ts same_setup same_image same_rows refines r
     (subst C same_image (subst D same_setup (refines no_ports n refl)))))
     ∙ own_tallies_are number n is
 
-pub tallies_end : (s : Start) (k n : ℕ) (m : Machine) (rows : List (Option Row)) (ts : List Tally) →
-    k ≡ n → HasTallied s k n m rows ts → ts ≡ tallies_of s n
-tallies_end s k n m rows ts end run = run.are ∙ ap (λ c. tallies_of s c) end
+pub tallies_end : (s : Start) (k n : ℕ) (stages : Stages) (m : Machine) (rows : List (Option Row))
+    (ts : List Tally) → k ≡ n → HasTallied s k n stages m rows ts → ts ≡ tallies_of s n
+tallies_end s k n stages m rows ts end run = run.are ∙ ap (λ c. tallies_of s c) end

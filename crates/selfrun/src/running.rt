@@ -8,6 +8,7 @@ ghost use Rattle.fp_io.specs.Content.{AppendsFront};
 ghost use Rattle.fp_ports.specs.PluggedPorts.{Row, rows_of};
 ghost use Rattle.setup_model.specs.Start.{no_ports};
 ghost use Rattle.pipe_model.specs.Stages.{retired_event};
+ghost use Rattle.pipeline_core.specs.Turns.{held};
 ghost use Rattle.pipeline_core.specs.StageFacts.{StoredFits};
 ghost use Rattle.core_model.specs.World.{Start};
 ghost use Rattle.machine.specs.WorldRelation.{Refines, start_beside};
@@ -24,7 +25,8 @@ use core_model::CYCLES_TO_W;
 use fp_io::{PutFailed, Sink};
 use fp_ports::Ports;
 use machine::Machine;
-use pipe_model::{Held, Stored, events_grow};
+use pipe_model::{Stored, events_grow};
+use pipeline_core::{StageRegister, Stages};
 use std::alloc::{AllocError, Global};
 
 /// The number of cycles that the machine runs.
@@ -49,22 +51,22 @@ fn no_ports(alloc: Global) -> Result<Ports, AllocError>
 /// [`CYCLES_TO_W`] cycles ago. It reads the turn in place, so that no event is made.
 #[inline(always)]
 #[tactic(auto, unfolding(pipe_model::specs::Stages::retired_event))]
-fn count(tallies: &mut [Tally; 8], folder: &mut LineFolder, turn: &Held<Stored>, cycle: u64)
+fn count(tallies: &mut [Tally; 8], folder: &mut LineFolder, m: &StageRegister<Stored>, cycle: u64)
     requires few { AreFew tallies.old (own_cycles - 1) }
-    requires fits { StoredFits turn.now }
+    requires fits { StoredFits (held m.now) }
     requires cycle { cycle < 10 ^ 10 }
     ensures { tallies.new ≡ tallies_with tallies.old (retired_event
-        (cycle - cycles_to_w) turn.now) }
+        (cycle - cycles_to_w) (held m.now)) }
 {
-    let Held::Issue { thread, what } = turn else {
+    if !m.is_issue() {
+        return;
+    }
+    let Some(effect) = &m.what.effect else {
         return;
     };
-    let Some(effect) = &what.effect else {
-        return;
-    };
-    let tally = &mut tallies[usize::from(*thread)];
+    let tally = &mut tallies[usize::from(m.turn)];
     let issued = cycle.saturating_sub(CYCLES_TO_W);
-    tally.add(folder, issued, *thread, what.pc, what.word, effect);
+    tally.add(folder, issued, m.turn, m.what.pc, m.what.word, effect);
 }
 
 /// The machine with the drawn programs, at its start.
@@ -79,7 +81,7 @@ fn own_machine(alloc: Global, number: u32) -> Result<Machine, AllocError>
 }
 
 /// Runs a machine for a number of cycles from its start, and counts the events of each thread as
-/// they retire.
+/// they retire. Afterwards the machine's `pipe` is still that of the start.
 fn tallies(machine: &mut Machine, cycles: u64, ports: &mut Ports) -> [Tally; 8]
     requires start { machine.old.at ≡ 0 }
     requires limit { cycles ≤ own_cycles }
@@ -91,9 +93,10 @@ fn tallies(machine: &mut Machine, cycles: u64, ports: &mut Ports) -> [Tally; 8]
     let mut tallies = [Tally { events: 0, fold: 0 }; 8];
     let mut folder = LineFolder::new();
     let loses_ports = machine.loses_ports();
+    let mut stages = Stages::of(&machine.pipe);
     for _cycle in 0..cycles {
-        count(&mut tallies, &mut folder, &machine.pipe.m, machine.at);
-        let _event = machine.tick_in_loop::<SELFRUN>(ports, loses_ports);
+        count(&mut tallies, &mut folder, &stages.m, machine.at);
+        let _event = machine.tick_stages::<SELFRUN>(&mut stages, ports, loses_ports);
     }
     tallies
 }

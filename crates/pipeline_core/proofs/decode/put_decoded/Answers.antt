@@ -1,5 +1,5 @@
-use Rattle.std.proofs.Common.{rules}
+use Rattle.pipeline_core.proofs.Turns.{of_issue}
 use Rattle.pipeline_core.proofs.decode.put_decoded.Goals as goal
 
-pub returns-in-Issue : goal.returns-in-Issue
-returns-in-Issue c = search rules
+pub returns : goal.returns
+returns c = of_issue c.args.thread c.args.what c.requires

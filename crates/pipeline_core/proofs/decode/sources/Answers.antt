@@ -1,27 +1,35 @@
 -- The younger turn forwards.
 use Rattle.std.proofs.Common.{arith, ◌∙◌}
-use Rattle.pipeline_core.proofs.Forwarding.{from_m_length, forwarded, passed_by}
+use Rattle.pipeline_core.proofs.Forwarding.{from_m_length, e_forwards, e_passes}
+use Rattle.pipeline_core.proofs.StageTurns.{executed_effect}
 use Rattle.pipeline_core.proofs.decode.sources.Goals as goal
 
-pub returns-in-Issue-clause-first : goal.returns-in-Issue-clause-first
-returns-in-Issue-clause-first c =
-    forwarded c.args.bank.now c.args.m.now _ c.args.thread _ _ c.args.x _ c.in-Issue.is
-    (omega arith)
-    (c.newer.ensures _ (from_m_length c.args.thread c.args.m.now _ ∙ c.settled-a.ensures.words)
-    c.settled-a.ensures.first)
+pub newer-requires-clause-fits : goal.newer-requires-clause-fits
+newer-requires-clause-fits c =
+    executed_effect c.args.e.now.turn c.args.e.now.what (omega arith) c.requires.e
 
-pub returns-in-Issue-clause-second : goal.returns-in-Issue-clause-second
-returns-in-Issue-clause-second c =
-    forwarded c.args.bank.now c.args.m.now _ c.args.thread _ _ c.args.y _ c.in-Issue.is
-    (omega arith) (c.newer-in-Issue.ensures _ (from_m_length c.args.thread c.args.m.now _
-    ∙ c.settled-a.ensures.words) c.settled-a.ensures.second)
+pub newer-requires-then-e-thread-clause-fits : goal.newer-requires-then-e-thread-clause-fits
+newer-requires-then-e-thread-clause-fits c =
+    executed_effect c.args.e.now.turn c.args.e.now.what (omega arith) c.requires.e
 
-pub returns-in_default-clause-first : goal.returns-in_default-clause-first
-returns-in_default-clause-first c =
-    passed_by c.args.bank.now c.args.m.now _ c.args.thread _ _ c.args.x _ c.in-Issue.is
-    (omega arith) c.settled-a.ensures.first
+pub returns-then-e-thread-clause-first : goal.returns-then-e-thread-clause-first
+returns-then-e-thread-clause-first c =
+    e_forwards c.args.bank.now _ c.args.thread c.args.e.now.turn c.args.e.now.what c.args.x _
+    c.if-e-thread.true c.requires.thread (c.newer.ensures _
+    (from_m_length c.args.thread _ _ ∙ c.settled-a.ensures.words) c.settled-a.ensures.first)
 
-pub returns-in_default-clause-second : goal.returns-in_default-clause-second
-returns-in_default-clause-second c =
-    passed_by c.args.bank.now c.args.m.now _ c.args.thread _ _ c.args.y _ c.in-Issue.is
-    (omega arith) c.settled-a.ensures.second
+pub returns-then-e-thread-clause-second : goal.returns-then-e-thread-clause-second
+returns-then-e-thread-clause-second c =
+    e_forwards c.args.bank.now _ c.args.thread c.args.e.now.turn c.args.e.now.what c.args.y _
+    c.if-e-thread.true c.requires.thread (c.newer-then-e-thread.ensures _
+    (from_m_length c.args.thread _ _ ∙ c.settled-a.ensures.words) c.settled-a.ensures.second)
+
+pub returns-else-e-thread-clause-first : goal.returns-else-e-thread-clause-first
+returns-else-e-thread-clause-first c =
+    e_passes c.args.bank.now _ c.args.thread c.args.e.now.turn c.args.e.now.what c.args.x _
+    c.if-e-thread.false c.settled-a.ensures.first
+
+pub returns-else-e-thread-clause-second : goal.returns-else-e-thread-clause-second
+returns-else-e-thread-clause-second c =
+    e_passes c.args.bank.now _ c.args.thread c.args.e.now.turn c.args.e.now.what c.args.y _
+    c.if-e-thread.false c.settled-a.ensures.second

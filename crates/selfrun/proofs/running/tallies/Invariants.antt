@@ -19,5 +19,5 @@ invariant-loop-cycle g l =
       known : l.loses_ports ≡ list_any is_some l.machine.unplugs;
       few : AreFew l.tallies l._cycle;
       runs : (s : Start) → Refines s 0 l.cycles l.initial.machine first →
-          HasTallied s l._cycle l.cycles l.machine rows l.tallies;
+          HasTallied s l._cycle l.cycles l.stages l.machine rows l.tallies;
     }

@@ -1,10 +1,13 @@
-use Rattle.std.proofs.Common.{◌≡◌, ℕ, ◌+◌, ◌-◌, ◌≤◌, true, false, vec_len}
+use Rattle.std.proofs.Common.{◌≡◌, ℕ, ◌+◌, ◌-◌, ◌<◌, ◌≤◌, true, None, vec_len}
 use Rattle.std.specs.Prelude.{is_some}
 use Rattle.std.specs.List.{list_any}
 use Rattle.fp_ports.specs.PluggedPorts.{rows_of}
 use Rattle.core_model.specs.World.{Start}
 use Rattle.machine.specs.Advancing.{Advanced}
-use Rattle.machine.specs.WorldRelation.{Refines, AreLeft}
+use Rattle.pipe_model.specs.declared.stage_registers.Held.{Held}
+use Rattle.pipe_model.specs.declared.stage_registers.Written.{Written}
+use Rattle.pipeline_core.specs.Abstraction.{registers_in}
+use Rattle.machine.specs.WorldRelation.{RefinesWith, AreLeft}
 use Rattle.machine.proofs.state.Machine.advance.Given as goal
 
 abbrev pub invariant-loop-self : goal.invariant-loop-self
@@ -18,15 +21,16 @@ invariant-loop-self g l =
       before : l.stop ≤ l.end;
       forth : l.initial.self.at ≤ l.self.at;
       begun : l.self.at ≡ l.initial.self.at → l.stop ≡ l.end;
-      last : l.shown ≡ true → l.self.at ≡ l.stop;
-      whole : l.shown ≡ false → l.stop ≡ l.end;
+      last : is_some l.shown ≡ true → l.self.at ≡ l.stop;
+      own : is_some l.shown ≡ true → l.thread < 8;
+      whole : l.shown ≡ None → l.stop ≡ l.end;
       eight : vec_len l.ports ≡ 8;
       unplugs : l.self.unplugs ≡ l.initial.self.unplugs;
       known : l.loses_ports ≡ list_any is_some l.self.unplugs;
       words : AreLeft first rows;
-      advanced : (s : Start) (n : ℕ) → l.end ≤ n + 3 →
-          Refines s l.initial.self.at n l.initial.self first →
-          Advanced s l.initial.self.at n l.thread l.self rows l.shown l.line;
+      advanced : (s : Start) (n : ℕ) (w : Held Written) → l.end ≤ n + 3 →
+          RefinesWith s l.initial.self.at n (registers_in l.initial.stages w) l.initial.self first →
+          Advanced s l.initial.self.at n l.thread l.stages l.self rows l.shown l.line;
     }
 
 abbrev pub decreases-loop-self : goal.decreases-loop-self

@@ -8,13 +8,13 @@ pub returns-clause-relation : goal.returns-clause-relation
 returns-clause-relation g c =
     let same : length c.args.ports.now.items ≡ 8 = omega arith in
     λ s n within st.
-    ticks s n c.args.self.now _ _ _ _ c.tick-event.result (length-map c.args.ports.now.items _
+    ticks s n _ _ c.args.self.now _ _ _ _ c.tick-event.result (length-map c.args.ports.now.items _
     ∙ same) c.take_if_any.ensures.rows within st (c.tick-event.ensures.relation s) refl refl
 
 pub returns-clause-words : goal.returns-clause-words
 returns-clause-words g c =
     let same : length c.args.ports.now.items ≡ 8 = omega arith in
-    cycle_words c.args.self.now _ _ _ (length-map c.args.ports.now.items _ ∙ same)
+    cycle_words c.args.self.now _ _ _ _ (length-map c.args.ports.now.items _ ∙ same)
     c.take_if_any.ensures.rows c.tick-event.ensures.step
 
 pub returns-clause-at : goal.returns-clause-at

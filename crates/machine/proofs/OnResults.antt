@@ -1,0 +1,15 @@
+-- What is known of a result, and more that follows from it.
+use Rattle.std.proofs.Common.{◌≡◌, Result, Ok, Err, OnOk, OnErr, Option, Some, None, true, refl}
+use Rattle.std.specs.Prelude.{is_some}
+
+pub map_ok : {T E : Type 0} → (r : Result T E) (P Q : Type 0) → OnOk r P → (P → Q) → OnOk r Q
+map_ok (Ok x) P Q h f = f h
+map_ok (Err e) P Q h f = h
+
+pub map_err : {T E : Type 0} → (r : Result T E) (P Q : Type 0) → OnErr r P → (P → Q) → OnErr r Q
+map_err (Ok x) P Q h f = h
+map_err (Err e) P Q h f = f h
+
+pub some_of : {A : Type 0} (o : Option A) → is_some o ≡ true → (x : A) × (o ≡ Some x)
+some_of (Some x) h = (x, refl)
+some_of None h = cc
