@@ -89,7 +89,7 @@ def with_bound(
         answer = flexpret.bound(setup, thread, start, end)
     found = answer.bound
     if found is None:
-        return replace(watched, doubt=answer.text.split("\n")[0] or f"status {answer.status}")
+        return replace(watched, doubt=answer.reason.split("\n")[0] or f"status {answer.status}")
     if found == 0:
         return replace(watched, doubt="a bound of 0: nothing of the section issues")
     return replace(watched, bound=found)

@@ -6,7 +6,7 @@ from typing import Mapping, Sequence
 
 from fptools.budget_files import Result, Verdict
 from fptools.elf import Program, ProgramError
-from fptools.observed import Kind, Observation, question_of, run_and_observe
+from fptools.observed import Kind, Observation, doubt_of, question_of, run_and_observe
 from fptools.observed_text import Text
 from fptools.program import Flexpret
 from fptools.section import walk_all
@@ -88,19 +88,17 @@ class Runs:
         return value if isinstance(value, int) else self.program.address(value)
 
     def _with_run(self, result: Result, observation: Observation, seen: Executions) -> Result:
-        slowest, most = seen.slowest, result.budget.cycles
-        if slowest is not None:
-            result = replace(result, executions=seen.count, longest=slowest[0])
+        slowest, most, doubt = seen.slowest, result.budget.cycles, doubt_of(seen)
+        why = Text(self.program).doubt(observation, doubt) if doubt else ""
+        result = replace(result, executions=seen.count, longest=slowest[0] if slowest else None)
         if slowest is not None and most is not None and slowest[0] > most:
-            longest = seen.longest
-            kinds = {id(seen.interrupted): " with a trap", id(seen.detours): " that leaves the section"}
-            kind = kinds.get(id(longest), "") if longest and longest.most == slowest[0] else " that goes on"
-            text = f"an execution{kind} takes {slowest[0]} of {most} cycles"
-            text += f", from cycle {slowest[1]} of a run; {result.text}"
+            text = f"an execution{_kind_of(seen, slowest)} takes {slowest[0]} of {most} cycles"
+            text += f", from cycle {slowest[1]} of a run; {f'{why}; ' if why else ''}{result.text}"
             return replace(result, verdict=Verdict.OVER, text=text)
         broken = self._broken(observation, seen)
-        if broken is not None:
-            return replace(result, verdict=Verdict.UNKNOWN, text=f"{broken}; {result.text}")
+        if broken is not None or doubt is not None:
+            text = "; ".join(it for it in (why, broken, result.text) if it)
+            return replace(result, verdict=Verdict.UNKNOWN, text=text)
         if not seen.count or slowest is None:
             return replace(result, text=f"{result.text}; no execution in {self.cycles} cycles", executions=0)
         return replace(
@@ -117,3 +115,12 @@ class Runs:
             if it.kind is Kind.TABLE and is_own or it.kind is Kind.BOUND and it.what == watched.name:
                 return text.broken(observation, it).split(maxsplit=1)[1]
         return None
+
+
+def _kind_of(seen: Executions, slowest: tuple[int, int]) -> str:
+    """How the slowest execution went, where it isn't whole."""
+    longest, lost = seen.longest, seen.lost
+    if lost is not None and (lost.cycles, lost.start) == slowest:
+        return " that didn't end"
+    kinds = {id(seen.interrupted): " with a trap", id(seen.detours): " that leaves the section"}
+    return kinds.get(id(longest), "") if longest and longest.most == slowest[0] else " that goes on"

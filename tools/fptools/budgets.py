@@ -166,7 +166,7 @@ class Judge:
 
     def _answered(self, answer: Answer) -> int:
         """The number that the program writes. The message of a refusal has its place and a remedy."""
-        text = f"status {answer.status}: {answer.text}"
+        text = f"status {answer.status}: {answer.reason}"
         try:
             found = read_answer(answer.text)
         except NoAnswer:

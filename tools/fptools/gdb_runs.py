@@ -87,7 +87,7 @@ class Runs:
         self._files = {path: _mark(path) for path in files}
         answer = self.flexpret.ask("dump", str(self.setup), "--cycles", "0")
         if answer.status != 0:
-            raise RunFailed(f"{self.setup}: {answer.text or f'status {answer.status}'}")
+            raise RunFailed(f"{self.setup}: {answer.reason or f'status {answer.status}'}")
         built = BESIDE.parent / BUILT
         if self.flexpret.path == str(BESIDE) and os.access(built, os.X_OK):
             # The script has just made sure that it is of these sources.

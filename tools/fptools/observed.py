@@ -7,7 +7,7 @@ import tempfile
 from bisect import bisect_left
 from collections import ChainMap
 from contextlib import contextmanager
-from dataclasses import dataclass, field
+from dataclasses import dataclass, field, replace
 from enum import Enum
 from itertools import chain
 from pathlib import Path
@@ -20,14 +20,15 @@ from fptools.setup import LoopTable, Setup
 from fptools.turns import Turns, is_delay, turns_of
 
 from fptools.visits import (
-    MOST_KEPT, CallMeter, Executions, LoopMeter, Meter, Rounds, SectionMeter, Trapped, TrapMeter, Wait,
-    WaitJudge, WaitMeter, Watched, earliest_issue, measure,
+    MOST_KEPT, CallMeter, Executions, LoopMeter, Lost, Meter, OpenTrapMeter, Rounds, SectionMeter, TrapAt,
+    Trapped, TrapMeter, Wait, WaitJudge, WaitMeter, Watched, earliest_issue, measure,
 )  # fmt: skip
 
 PIPE_BYTES = 1 << 20
 WRITE_FAILED = 8  # the status of the program
 DEFAULT_PERIOD = 10  # nanoseconds
 LOOKED_AT = 32  # events of a block that are compared with the turns
+RETIRES = 4  # cycles from an issue to its line: the issues of as many last cycles of a run have none
 
 
 class RunFailed(Exception):
@@ -42,6 +43,27 @@ class Kind(Enum):
     BOUND = "bound"  # in a visit that kept all tables: a fault of the analyser
 
 
+class Why(Enum):
+    """Why a run doesn't show that a budget is kept, though no execution that ended took longer."""
+
+    TRAPPED = "an execution didn't end: a trap came, and the thread didn't come back"
+    LEFT = "an execution didn't end: the section was left, and began again"
+    GONE = "a trap came since the last execution, and the thread didn't come back"
+    NONE_ENDED = "one execution began, and none ended"
+    NONE_BEGAN = "no execution began"
+
+
+@dataclass(frozen=True)
+class Doubt:
+    """Why a run says nothing good of a section."""
+
+    what: str  # the section's name
+    why: Why
+    start: int = 0  # the cycle in which the execution began
+    cycles: int = 0  # that it took so far
+    trap: TrapAt | None = None
+
+
 @dataclass(frozen=True)
 class Break:
     """A break of a table, a budget or a bound."""
@@ -52,6 +74,7 @@ class Break:
     most: int  # that were allowed
     cycle: int  # in which it began
     times: int
+    doubt: Doubt | None = None  # of a section that is over its budget
 
 
 @dataclass(frozen=True)
@@ -65,6 +88,12 @@ class Question:
     period: int = DEFAULT_PERIOD
     code: Mapping[int, int] = field(default_factory=dict)  # the words of the image, where it is known
     is_quiet: bool = True  # no thread may write slots, modes or regions
+    cycles: int | None = None  # of the run, where that is known
+
+    @property
+    def shown_to(self) -> int | None:
+        """The last cycle of which the trace shows whether the thread issued."""
+        return None if self.cycles is None else self.cycles - RETIRES - 1
 
 
 @dataclass
@@ -96,11 +125,19 @@ class Observation:
                 cycle, most = max(rounds.breaks, key=lambda it: (it[1], -it[0]))
                 yield Break(Kind.TABLE, spelled_loop(table), most, table.bound, cycle, len(rounds.breaks))
 
+    @property
+    def doubts(self) -> list[Doubt]:
+        """Why the run says nothing good of sections; those that are over their budgets aren't among them."""
+        found = (doubt_of(seen) for seen in self.executions if not _is_over(seen))
+        return [it for it in found if it is not None]
+
     def _broken_budgets(self) -> Iterator[Break]:
         for seen in self.executions:
             slowest, budget = seen.slowest, seen.watched.budget
-            if slowest is not None and budget is not None and slowest[0] > budget:
-                yield Break(Kind.BUDGET, seen.watched.name, slowest[0], budget, slowest[1], 1)
+            if slowest is not None and budget is not None and _is_over(seen):
+                doubt = doubt_of(seen)
+                own = doubt if doubt and doubt.why not in (Why.NONE_ENDED, Why.NONE_BEGAN) else None
+                yield Break(Kind.BUDGET, seen.watched.name, slowest[0], budget, slowest[1], 1, own)
 
     def _broken_bounds(self) -> Iterator[Break]:
         """The visits above their bound in which no loop went back more often than its table says."""
@@ -112,6 +149,31 @@ class Observation:
             if kept and seen.watched.bound is not None:
                 cycle, cycles = max(kept, key=lambda it: (it[1], -it[0]))
                 yield Break(Kind.BOUND, seen.watched.name, cycles, seen.watched.bound, cycle, len(kept))
+
+
+def _is_over(seen: Executions) -> bool:
+    """Whether an execution took longer than the budget."""
+    slowest, budget = seen.slowest, seen.watched.budget
+    return slowest is not None and budget is not None and slowest[0] > budget
+
+
+def doubt_of(seen: Executions) -> Doubt | None:
+    """Why a run says nothing good of a section, or of a function with a budget or bound. Without a budget
+    that is only a trap from which the thread didn't come back."""
+    watched, lost = seen.watched, seen.lost
+    has_budget = watched.budget is not None
+    if watched.is_function and not has_budget and watched.bound is None:
+        return None
+    if lost is not None and (lost.trap is not None or has_budget):
+        why = Why.LEFT if lost.trap is None else Why.TRAPPED
+        return Doubt(watched.name, why, lost.start, lost.cycles, lost.trap)
+    if seen.gone is not None and (has_budget or not watched.is_function):
+        return Doubt(watched.name, Why.GONE, trap=seen.gone)
+    if not has_budget or seen.count:
+        return None
+    if seen.unfinished is not None:
+        return Doubt(watched.name, Why.NONE_ENDED, *seen.unfinished)
+    return Doubt(watched.name, Why.NONE_BEGAN)
 
 
 def _has_break(starts: Sequence[int], cycle: int, cycles: int) -> bool:
@@ -175,13 +237,18 @@ class TurnMeter:
 def observe(reader: TraceReader, question: Question) -> Observation:
     """Looks at a trace. Where a line is broken, at all before it."""
     code: Mapping[int, int] = ChainMap(dict(question.code), reader.words) if question.code else reader.words
-    sections = [SectionMeter(it, question.turns, code) for it in question.watched if not it.is_function]
+    sections = [
+        SectionMeter(it, question.turns, code, question.shown_to)
+        for it in question.watched
+        if not it.is_function
+    ]
     functions = [it for it in question.watched if it.is_function]
     calls = CallMeter(functions, question.turns, reader)
     loops = [LoopMeter(table) for table in question.loops]
     waits, traps = WaitMeter(WaitJudge(reader, question.turns, question.period)), TrapMeter()
-    turns = TurnMeter(question.turns, code)
-    meters: list[Meter] = [*sections, *loops, waits, traps, turns, *([calls] if functions else [])]
+    turns, open_trap = TurnMeter(question.turns, code), OpenTrapMeter(reader)
+    meters: list[Meter] = [*sections, *loops, waits, traps, turns, open_trap]
+    meters += [calls] if functions else []
     seen = Observation(question)
     try:
         measure(reader, meters)
@@ -191,11 +258,28 @@ def observe(reader: TraceReader, question: Question) -> Observation:
         seen.broken = f"{reader.name}: stopped behind cycle {reader.last_cycle}"
     seen.events, seen.first_cycle, seen.last_cycle = reader.events, reader.first_cycle, reader.last_cycle
     seen.executions = [*(it.seen for it in sections), *calls.seen.values()]
+    for executions in seen.executions:
+        look_at_open_trap(executions, open_trap, reader.last_cycle or 0)
     seen.rounds = [it.seen for it in loops]
     seen.waits = sorted(waits.seen.values(), key=lambda it: it.pc)
     seen.traps = sorted(traps.seen.values(), key=lambda it: it.first)
     seen.foreign = _foreign(reader, question, turns)
     return seen
+
+
+def look_at_open_trap(seen: Executions, open_trap: OpenTrapMeter, last_cycle: int) -> None:
+    """Whether a thread that is in a trap handler at the end of a run comes back no more. It does where an
+    execution with a trap ended before and took as long, or executions began as far apart."""
+    trap, last_begin = open_trap.trap, seen.last_begin
+    if seen.watched.is_function and trap is not None and last_begin is not None and last_begin < trap.cycle:
+        seen.open_trap = trap
+    if seen.unfinished is not None:
+        comes_back = seen.interrupted.most >= seen.unfinished[1] and not open_trap.stands_still
+        if seen.open_trap is not None and not comes_back:
+            seen.lose(Lost(*seen.unfinished, seen.open_trap))
+    elif trap is not None and (last_begin is None or last_begin < trap.cycle):
+        if open_trap.stands_still or last_cycle - trap.cycle > seen.periods.most > 0:
+            seen.gone = trap
 
 
 def _foreign(reader: TraceReader, question: Question, turns: TurnMeter) -> str | None:
@@ -260,6 +344,7 @@ def run_and_observe(
     """Runs a thread for some cycles and looks at its trace, from cycle `start` on and before `end`."""
     assert question.thread is not None
     most = min(cycles, end) if end is not None else cycles
+    question = replace(question, cycles=cycles if end is None else min(cycles, end + RETIRES))
     with opened_run(flexpret, setup.path, question.thread, cycles) as source:
         reader = TraceReader(source, f"T{question.thread}", start, end, Progress(name, most))
         return observe(reader, question)

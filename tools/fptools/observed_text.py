@@ -6,9 +6,9 @@ import io
 from typing import Any, Callable, Iterator, Sequence
 
 from fptools.elf import Program
-from fptools.observed import Break, Kind, Observation, spelled_loop
+from fptools.observed import Break, Doubt, Kind, Observation, Why, spelled_loop
 from fptools.trace import CAUSES
-from fptools.visits import Executions, Rounds, Spread, Wait
+from fptools.visits import Executions, Rounds, Spread, TrapAt, Wait
 
 NO_NUMBER = "-"
 NAME_WIDTH, EXECUTION_WIDTHS, WAIT_WIDTHS = 32, (9, 10, 11, 10, 12, 10, 7, 10), (9, 10, 11, 12, 12, 17)
@@ -137,6 +137,30 @@ class Text:
             cause = f"{it.cause} {CAUSES.get(it.cause, 'unknown')}"
             yield f"{self.at(it.pc):<32}{it.count:>9}{it.first:>12}  {cause}"
 
+    def unknown(self, seen: Observation, it: Doubt) -> str:
+        """The line of a section of which a run says nothing good."""
+        thread = "" if seen.question.thread is None else f"T{seen.question.thread} "
+        return f"UNKNOWN {thread}{it.what}: {self.doubt(seen, it)}"
+
+    def doubt(self, seen: Observation, it: Doubt) -> str:
+        """Why a run says nothing good of a section."""
+        cycles = seen.question.cycles
+        there = "in these cycles" if cycles is None else f"in {cycles} cycles"
+        trap = "" if it.trap is None else self._trap(it.trap)
+        return {
+            Why.TRAPPED: f"the execution from cycle {it.start} didn't end: {trap}",
+            Why.LEFT: f"the execution from cycle {it.start} didn't end: "
+            f"the section was left, and began again {it.cycles} cycles later",
+            Why.GONE: f"no execution since the thread trapped, and it didn't come back: {trap}",
+            Why.NONE_ENDED: f"no execution ended {there}: one began in cycle {it.start}",
+            Why.NONE_BEGAN: f"no execution {there}",
+        }[it.why]
+
+    def _trap(self, it: TrapAt) -> str:
+        """A trap with its cause, cycle and place."""
+        cause = f"{it.cause} {CAUSES.get(it.cause, 'unknown')}"
+        return f"trap {cause} in cycle {it.cycle} at {self.at(it.pc)}"
+
     def broken(self, seen: Observation, it: Break) -> str:
         """The line of a break."""
         thread = "" if seen.question.thread is None else f"T{seen.question.thread} "
@@ -147,7 +171,9 @@ class Text:
             text += f"; {it.times} entries broke it"
             return f"TABLE   {thread}loop {name}: {text}"
         if it.kind is Kind.BUDGET:
-            return f"OVER    {thread}{it.what}: {it.seen} of {it.most} cycles, from cycle {it.cycle}"
+            text = f"{it.seen} of {it.most} cycles, from cycle {it.cycle}"
+            text += f"; {self.doubt(seen, it.doubt)}" if it.doubt else ""
+            return f"OVER    {thread}{it.what}: {text}"
         text = f"{it.seen} cycles from cycle {it.cycle}, {it.times} times above its bound of {it.most}"
         return f"FAULT   {thread}{it.what}: {text}{REPORT if seen.question.is_quiet else NOT_QUIET}"
 
@@ -202,6 +228,9 @@ def as_data(seen: Observation, text: Text) -> dict[str, Any]:
                 "text": text.broken(seen, it),
             }
             for it in seen.breaks
+        ],
+        "unknown": [
+            {"name": it.what, "why": it.why.value, "text": text.unknown(seen, it)} for it in seen.doubts
         ],
         "broken_trace": seen.broken,
         "foreign_trace": seen.foreign,

@@ -25,6 +25,7 @@ MOST_OPEN_CALLS = 10_000
 TAKES_TURN = (1, 24)  # the causes of a refused fetch and an expiry: the word at the pc doesn't issue
 RETURN_REGISTER = 1
 FUNCT3_DU = 2
+JUMP_TO_ITSELF = 0x0000006F  # `j .`
 
 
 @dataclass
@@ -80,6 +81,29 @@ class Watched:
     is_function: bool = False  # from a call of the function at `start` to the word after the call
 
 
+@dataclass(frozen=True)
+class TrapAt:
+    """A trap of a thread."""
+
+    pc: int
+    cause: int
+    cycle: int
+
+
+@dataclass(frozen=True)
+class Lost:
+    """An execution that didn't end in a run: the thread trapped in it, or left it, and didn't come back."""
+
+    start: int  # the cycle in which it began
+    cycles: int  # until the section began again, or to the end of the run
+    trap: TrapAt | None  # that came first in it; None where the section was left without one
+
+    @property
+    def weight(self) -> tuple[bool, int]:
+        """A trap says more than another way out; then the longest counts."""
+        return self.trap is not None, self.cycles
+
+
 @dataclass
 class Executions:
     """The observations of a section or function."""
@@ -94,7 +118,10 @@ class Executions:
     left: Counter[int] = field(default_factory=Counter)  # to which addresses other than its ends
     given_up: int = 0  # executions that began again before they ended
     unfinished: tuple[int, int] | None = None  # the cycle in which the last one began, and its cycles so far
-    is_inside: bool = False  # whether that one was in the section at the end, and not in a trap handler
+    open_trap: TrapAt | None = None  # that came in that one, which hasn't gone on since
+    last_begin: int | None = None  # the cycle in which the newest one began
+    lost: Lost | None = None  # one that didn't end, of several the one that says most
+    gone: TrapAt | None = None  # a trap since the last execution, from which the thread didn't come back
     over: list[tuple[int, int]] = field(default_factory=list)  # visits above the bound: cycle and cycles
 
     @property
@@ -109,12 +136,19 @@ class Executions:
 
     @property
     def slowest(self) -> tuple[int, int] | None:
-        """The cycles of the longest execution, however it went, also of one that goes on; and its first cycle."""
+        """The cycles of the longest execution, however it went, also of one that goes on or didn't end; and
+        its first cycle."""
         longest = self.longest
         seen = [(longest.most, longest.at)] if longest else []
-        if self.unfinished and self.is_inside:
+        if self.unfinished:
             seen.append((self.unfinished[1], self.unfinished[0]))
+        if self.lost:
+            seen.append((self.lost.cycles, self.lost.start))
         return max(seen, default=None)
+
+    def lose(self, lost: Lost) -> None:
+        """Takes note of an execution that didn't end."""
+        self.lost = max((it for it in (self.lost, lost) if it), key=lambda it: it.weight)
 
     def met(self, cycle: int, cycles: int) -> None:
         """Compares a visit, as the bound speaks of them, with the bound."""
@@ -205,9 +239,12 @@ class _Where(Enum):
 class SectionMeter:
     """Measures a section."""
 
-    def __init__(self, watched: Watched, turns: Turns | None, code: Mapping[int, int]) -> None:
+    def __init__(
+        self, watched: Watched, turns: Turns | None, code: Mapping[int, int], shown_to: int | None = None
+    ) -> None:
         self.seen = Executions(watched)
         self._turns, self._code = turns, code
+        self._shown_to = shown_to  # the last cycle of which the trace shows whether the thread issued
         self._delays: dict[str, bool] = {}  # whether the word at an event's address is a DU
         self._ends = frozenset({watched.end, *watched.exits})
         own = span(watched.start, watched.end)
@@ -222,7 +259,7 @@ class SectionMeter:
         self._started = 0
         self._began_before: int | None = None
         self._is_clean = True  # neither trap nor detour so far
-        self._has_trap = False
+        self._trap: TrapAt | None = None  # the first one of the execution
         self._resumes: tuple[int, ...] = ()
 
     def take(self, block: Block) -> None:
@@ -232,13 +269,17 @@ class SectionMeter:
             position = step[self._where](block, position)
 
     def end(self, cycle: int) -> None:
+        self.seen.last_begin = self._began_before
         if self._where is _Where.OUTSIDE:
             return
-        so_far = cycle - self._started
-        self.seen.unfinished = self._started, so_far
-        self.seen.is_inside = self._where is _Where.INSIDE
         if self._is_clean:
-            self.seen.met(self._started, so_far)
+            self.seen.met(self._started, cycle - self._started)
+        # A DU that spins has no line, so where it is the word at an end, the section may have ended.
+        may_have_ended = any(is_delay(self._code.get(pc, 0)) for pc in self._ends)
+        last = cycle if may_have_ended or self._shown_to is None else max(cycle, self._shown_to)
+        so_far = last - self._started
+        self.seen.unfinished = self._started, so_far
+        self.seen.open_trap = self._trap if self._where is _Where.AWAY else None
 
     def _seek(self, block: Block, position: int) -> int:
         """Takes whole executions, up to one that something interrupts. A turn of the first word that an
@@ -263,7 +304,7 @@ class SectionMeter:
         if self._began_before is not None:
             self.seen.periods.add(cycle - self._began_before, self._began_before)
         self._began_before = self._started = cycle
-        self._is_clean, self._has_trap = True, False
+        self._is_clean, self._trap = True, None
 
     def _go_on(self, block: Block, position: int) -> int:
         """Goes on to the first event that is outside, or traps."""
@@ -298,7 +339,7 @@ class SectionMeter:
             self.seen.whole.add(cycles, self._started)
             self.seen.met(self._started, cycles)
         else:
-            (self.seen.interrupted if self._has_trap else self.seen.detours).add(cycles, self._started)
+            (self.seen.interrupted if self._trap else self.seen.detours).add(cycles, self._started)
         self._where = _Where.OUTSIDE
 
     def _cut(self, cycle: int) -> None:
@@ -311,8 +352,9 @@ class SectionMeter:
     def _cut_by_trap(self, block: Block, index: int) -> None:
         self._cut(block.cycle(index))
         self.seen.traps += 1
-        self._has_trap = True
         pc = int(block.lines[index][PC], 16)
+        if self._trap is None:
+            self._trap = TrapAt(pc, _cause(block.lines[index]), block.cycle(index))
         self._resumes = pc, pc + 4
 
     def _cut_by_leaving(self, block: Block, index: int) -> None:
@@ -331,6 +373,7 @@ class SectionMeter:
             return index + 1
         if found.group() == self._first and pc not in self._resumes:
             self.seen.given_up += 1
+            self.seen.lose(Lost(self._started, block.cycle(index) - self._started, self._trap))
             self._open(block.cycle(index))
         self._where = _Where.INSIDE
         return index
@@ -505,7 +548,8 @@ class CallMeter:
         for call in self._stack:
             if call.callee in self.seen:
                 self.seen[call.callee].unfinished = call.cycle, cycle - call.cycle
-                self.seen[call.callee].is_inside = call.traps == self._traps
+        for callee, begin in self._began_before.items():
+            self.seen[callee].last_begin = begin
 
     def _take_jump(self, block: Block, index: int) -> None:
         line = self._jump if index < 0 else block.lines[index]
@@ -701,6 +745,31 @@ def _cause(line: bytes) -> int:
 
 def _is_return_of_trap(line: bytes | None) -> bool:
     return line is not None and int(line[BITS], 16) == MRET
+
+
+class OpenTrapMeter:
+    """Finds the newest trap from which a thread hasn't come back by an MRET."""
+
+    def __init__(self, reader: TraceReader) -> None:
+        self.trap: TrapAt | None = None
+        self.stands_still = False  # the last event is a jump to itself, or a trap
+        self._known = Known(reader, lambda word: word.bits == MRET)
+        self._last = b""
+
+    def take(self, block: Block) -> None:
+        self._known.learn()
+        returned = max((block.events.rfind(character(pc)) for pc in self._known.pcs), default=-1)
+        trapped = block.traps[-1] if block.traps else -1
+        if trapped > returned:
+            line = block.lines[trapped]
+            self.trap = TrapAt(int(line[PC], 16), _cause(line), block.cycle(trapped))
+        elif returned >= 0:
+            self.trap = None
+        self._last = block.lines[-1]
+        self.stands_still = int(self._last[BITS], 16) == JUMP_TO_ITSELF or trapped == len(block.lines) - 1
+
+    def end(self, cycle: int) -> None:
+        """Nothing is open at the end."""
 
 
 def measure(reader: TraceReader, meters: Collection[Meter]) -> None:

@@ -252,12 +252,13 @@ class Page:
 
     @property
     def remarks(self) -> list[str]:
-        """That a run broke a loop's table or a bound."""
+        """That a run broke a loop's table or a bound, and that an execution didn't end."""
         text = Text(self.findings.program)
         found: list[str] = []
         for it in self.findings.observations:
-            # A budget that is over says so itself.
-            found += [text.broken(it, one) for one in it.breaks if one.kind is not Kind.BUDGET]
+            found += [text.unknown(it, one) for one in it.doubts]
+            # A budget that is over says so itself, and that an execution didn't end is of the run.
+            found += [text.broken(it, one) for one in it.breaks if one.kind is not Kind.BUDGET or one.doubt]
         return found
 
 
