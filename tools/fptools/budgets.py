@@ -9,7 +9,7 @@ from typing import Mapping
 
 from fptools.answers import Bound, NoAnswer, read_answer
 from fptools.budget_files import Assumption, Budget, LoopFact, Result, Verdict
-from fptools.elf import Program, ProgramError
+from fptools.elf import Program, ProgramError, other_word
 from fptools.loops import StatedLoop, state_loops
 from fptools.moved import NotKnown, moved_word
 from fptools.program import Answer, Flexpret
@@ -58,14 +58,6 @@ FUNCTION_HELP = {
 
 class Unknown(Exception):
     """The reason why a budget is unknown."""
-
-
-def other_word(program: Program, image: Mapping[int, int]) -> str:
-    """The first word of an image that the executable has otherwise; empty where there is none."""
-    if program.path is None:
-        return ""
-    word = program.other_word(image)
-    return f"{word}: the image isn't made of {program.path}: make it again by `elf`" if word else ""
 
 
 @dataclass
@@ -129,9 +121,9 @@ class Judge:
 
     def unknown(self, budget: Budget, why: Exception) -> Result:
         """The reason why a budget is unknown, and whether the sources are of another build."""
-        text, newer = str(why), self.newer_source
-        is_told = not newer or newer in text
-        return Result(budget, Verdict.UNKNOWN, text if is_told else f"{text}; {newer}")
+        text, other = str(why), self.other_source
+        is_told = not other or other in text
+        return Result(budget, Verdict.UNKNOWN, text if is_told else f"{text}; {other}")
 
     def asked(self, budget: Budget) -> Asked:
         """A budget with the code that it is of."""
@@ -381,16 +373,14 @@ class Judge:
 
     def _look_at_sources(self, asked: Asked) -> None:
         """Lines and comments are of the sources that the executable was built from."""
-        note = self.newer_source
+        note = self.other_source
         if note and not asked.assumes(Assumption.SAME_SOURCES, note):
-            raise Unknown(f"{note}: build it again, or assume = [{Assumption.SAME_SOURCES.value!r}]")
+            raise Unknown(f"{note}: build it again by `make`, or assume = [{Assumption.SAME_SOURCES.value!r}]")
 
     @property
-    def newer_source(self) -> str:
-        """Which source that was looked at is newer than the executable; empty where none is."""
-        path = self.program.path
-        newer = self.sources.newer_than(path) if path else None
-        return f"{newer.name} is newer than {path.name}, so its lines may be others" if newer and path else ""
+    def other_source(self) -> str:
+        """Which source isn't the one that the executable was built from; empty where there is none."""
+        return self.sources.other_than(self.program)
 
     def _ask(self, asked: Asked) -> Answer:
         budget, section = asked.budget, asked.section

@@ -9,6 +9,7 @@ from pathlib import Path
 from typing import Any, Callable, Collection, Iterable, Iterator, Mapping
 
 from fptools.image import words_of
+from fptools.recorded import SECTION, NoRecord, read_record
 
 # Without an executable nothing here needs pyelftools: the methods that read one import it.
 
@@ -99,6 +100,7 @@ class Program:
         self.functions: list[Function] = []
         self.symbols: list[tuple[int, str]] = []
         self.knows_functions = True  # whether it is known which functions were inlined, and which have no code
+        self.record: dict[str, set[str]] | None = None  # the checksums of its sources by their names, where it has them
         self._files: list[str] = []  # the names of its sources, or of its objects
         if path is None:
             return
@@ -124,8 +126,16 @@ class Program:
         for section in elf.iter_sections():
             if isinstance(section, SymbolTableSection):
                 self._take_symbols(section)
+            elif section.name == SECTION:
+                self._take_record(section.data())
         self.functions.sort()
         self.symbols.sort()
+
+    def _take_record(self, data: bytes) -> None:
+        try:
+            self.record = read_record(data)
+        except NoRecord as fault:
+            raise ProgramError(f"{self.path}: section {SECTION}: {fault}: build it again by `make`") from fault
 
     def _take_symbols(self, table: Any) -> None:
         for symbol in table.iter_symbols():
@@ -240,6 +250,22 @@ class Program:
                 return []
 
     @cached_property
+    def folders(self) -> list[Path]:
+        """The folders in which its units were compiled, as far as it names them."""
+        if self.path is None:
+            return []
+        from fptools.pyelf import FAULTS, DWARFError, ELFError, ELFFile
+
+        try:
+            with self.path.open("rb") as file:
+                elf = ELFFile(file)
+                dwarf = elf.get_dwarf_info() if elf.has_dwarf_info() else None
+                tops = [unit.get_top_DIE().attributes for unit in dwarf.iter_CUs()] if dwarf else []
+        except (ELFError, DWARFError, *FAULTS):
+            return []
+        return sorted({Path(it["DW_AT_comp_dir"].value.decode()) for it in tops if "DW_AT_comp_dir" in it})
+
+    @cached_property
     def _inlined(self) -> list[Inlined]:
         return [it for inlined, *_ in self._units for it in inlined]
 
@@ -310,6 +336,14 @@ class Program:
             # Version 0.29 of pyelftools has no form for the checksums of files that clang writes.
             text = "has line tables that pyelftools can't read; -gdwarf-4 gives others"
             raise ProgramError(f"{self.path} {text}") from fault
+
+
+def other_word(program: Program, image: Mapping[int, int]) -> str:
+    """The first word of an image that the executable has otherwise; empty where there is none."""
+    if program.path is None:
+        return ""
+    word = program.other_word(image)
+    return f"{word}: the image isn't made of {program.path}: make it again by `elf`" if word else ""
 
 
 def pieces_of(rows: Iterable[Row]) -> Iterator[list[Row]]:

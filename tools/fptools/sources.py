@@ -6,7 +6,8 @@ from pathlib import Path
 from typing import Collection
 
 from fptools.ctext import GOTO_WORD, KEYWORD, LEAVES, NAME, CText, LoopText, is_c
-from fptools.elf import ASSEMBLER, Line
+from fptools.elf import ASSEMBLER, Line, Program
+from fptools.recorded import checksum, first_changed, inner_parts, sums_of
 
 
 class Sources:
@@ -69,11 +70,35 @@ class Sources:
         files = sorted({line.file for line in lines if is_c(line.file)})
         return next((str(file) for file in files if self._find(file) is None), "")
 
-    def newer_than(self, executable: Path) -> Path | None:
-        """A source that was looked at, and was written after an executable; None where there is none."""
-        made = executable.stat().st_mtime_ns
-        found = (self._find(file) for file in sorted(self._texts))
-        return next((it for it in found if it is not None and it.stat().st_mtime_ns > made), None)
+    def other_than(self, program: Program) -> str:
+        """Which source isn't the one that an executable was built from; empty where there is none. Those of which
+        it carries a checksum are compared by that; others that were looked at by their times."""
+        path, record = program.path, program.record
+        if path is None:
+            return ""
+        text = f"isn't what {path.name} was built from, so its lines may be others"
+        if record and (changed := first_changed(record, self._recorded(program))):
+            return f"{Path(changed).name} {text}"
+        made = path.stat().st_mtime_ns
+        for file in sorted(self._texts):
+            found, sums = self._find(file), sums_of(record, file) if record else set()
+            if found is not None and sums and checksum(found) not in sums:
+                return f"{found.name} {text}"
+            if found is not None and not sums and found.stat().st_mtime_ns > made:
+                return f"{found.name} is newer than {path.name}, so its lines may be others"
+        return ""
+
+    def _recorded(self, program: Program) -> dict[str, list[Path]]:
+        """The files of each name of which an executable carries a checksum: where it was compiled, or beside it."""
+        return {name: self._files_of(Path(name), program) for name in program.record or {}}
+
+    def _files_of(self, name: Path, program: Program) -> list[Path]:
+        if self.folder:
+            found = self._find(Path(*inner_parts(name)))
+            return [found] if found else []
+        compiled = [it for folder in program.folders if (it := folder / name).is_file()]
+        beside = program.path.parent / name if program.path else name
+        return compiled or [beside] * beside.is_file()
 
     def loops_from(self, file: Path, number: int) -> list[LoopText]:
         """The loops of a C source that begin or end in a line."""

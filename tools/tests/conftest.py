@@ -3,6 +3,7 @@ from __future__ import annotations
 
 import os
 import shlex
+import shutil
 import signal
 import subprocess
 import sys
@@ -54,6 +55,35 @@ def flexpret() -> str:
     return program
 
 
+@pytest.fixture(scope="session")
+def script(flexpret: str, tmp_path_factory: pytest.TempPathFactory) -> str:
+    """The script ./flexpret with that program, as if it had built it: it warns, and explains refusals."""
+    folder = tmp_path_factory.mktemp("script")
+    built = folder / BUILT.relative_to(TOP)
+    built.parent.mkdir(parents=True)
+    built.symlink_to(Path(flexpret).resolve())
+    (folder / "tools").symlink_to(TOOLS)
+    (folder / "installed").touch()
+    return str(shutil.copy(TOP / "flexpret", folder))
+
+
+@pytest.fixture(scope="session")
+def either(flexpret: str, script: str, tmp_path_factory: pytest.TempPathFactory) -> str:
+    """A program that gives the script's answers for bounds, which have to be those of the program: so each case is
+    tried with both, and no tool runs twice."""
+    both = tmp_path_factory.mktemp("either") / "flexpret"
+    program, caller = shlex.quote(str(Path(flexpret).resolve())), shlex.quote(script)
+    both.write_text(
+        f'#!/bin/bash\ncase $1 in bound | calls) ;; *) exec {program} "$@" ;; esac\n'
+        f'wanted=$({program} "$@"; echo "status $?")\n'
+        f'found=$(env -u FLEXPRET {caller} "$@"; echo "status $?")\n'
+        '[ "$found" = "$wanted" ] || { echo "the script answers $found, the program $wanted" >&2; exit 99; }\n'
+        'status=${found##*status }\nprintf %s "${found%status *}"\nexit "$status"\n'
+    )
+    both.chmod(0o755)
+    return str(both)
+
+
 class Tool:
     """Runs a tool from a folder."""
 
@@ -76,6 +106,6 @@ def tool() -> Tool:
 
 
 @pytest.fixture
-def asking(flexpret: str) -> Tool:
-    """Runs a tool at the top of the repository, which may ask the program."""
-    return Tool(TOP, flexpret)
+def asking(either: str) -> Tool:
+    """Runs a tool at the top of the repository, which may ask the program, or the script that calls it."""
+    return Tool(TOP, either)

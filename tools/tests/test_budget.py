@@ -30,11 +30,12 @@ ELSEWHERE = "lay the code out by fp_layout, or name the address in `exits` if it
 
 
 def judged(asking: Tool, folder: Path, words: tuple[str, ...], *tables: str) -> tuple[int, list[str]]:
-    """The status and the lines for budgets of these tables."""
+    """The status and the lines for budgets of these tables, without those that the script warns by."""
     budgets = folder / "budgets.toml"
     budgets.write_text("".join(f"[[budget]]\n{table}\n" for table in tables))
     ran = asking("fp_budget", words[0], budgets, *words[1:])
-    return ran.returncode, (ran.stdout + ran.stderr).splitlines()
+    lines = (ran.stdout + ran.stderr).splitlines()
+    return ran.returncode, [it for it in lines if not it.startswith("flexpret: warning: ")]
 
 
 def section(start: str, end: str, more: str = "cycles = 1000") -> str:

@@ -88,7 +88,7 @@ def test_an_execution_that_does_not_end(tool: Tool, folder: Path) -> None:
 
 def test_a_section_that_never_runs(tool: Tool, folder: Path) -> None:
     status, text = Case(tool, folder, "kept").judged(1000, 4)
-    assert (status, text) == (0, "holds    T0 it: 48 of 1000 cycles (480 ns); no execution in 4 cycles\n")
+    assert (status, text) == (2, "UNKNOWN  T0 it: no execution in 4 cycles; 48 of 1000 cycles (480 ns)\n")
 
 
 def test_what_is_unknown_stays_so_in_a_run(tool: Tool, folder: Path) -> None:

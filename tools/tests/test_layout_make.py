@@ -121,9 +121,7 @@ def test_a_program_of_its_own_has_a_bound(folder: Path, words: tuple[str, ...]) 
     assert "indirect" not in {flow(executable.words[at], at)[0] for at in words_between}
     assert (folder / "t0_own.laid.s").exists() and not (folder / "start.laid.s").exists()
     assert built(folder, "clean", *words).returncode == 0
-    assert sorted(it.name for it in folder.iterdir()) == sorted(
-        [*SHARED, "own.elf", "t0_own.c", "t1_count.c"]
-    )
+    assert sorted(it.name for it in folder.iterdir()) == sorted([*SHARED, "t0_own.c", "t1_count.c"])
 
 
 def test_a_function_that_stays_stops_the_build(folder: Path) -> None:

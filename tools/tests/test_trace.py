@@ -127,10 +127,18 @@ def test_a_period_that_no_setup_has(tool: Tool, period: str) -> None:
     assert tool("fp_trace", "examples/c/pid.trace", f"--period={period}").returncode == 2
 
 
-def test_an_executable_with_other_words_is_told_once(tool: Tool) -> None:
+def test_an_executable_with_other_words_is_refused(tool: Tool) -> None:
     ran = tool("fp_trace", "examples/c/pid.trace", "--elf", LOOPS, "--objdump", "")
     text = "has another word: names and lines are of another program"
-    assert (ran.returncode, ran.stderr) == (0, f"fp_trace: 0x0: {LOOPS} {text}\n")
+    assert (ran.returncode, ran.stdout, ran.stderr) == (2, "", f"fp_trace: 0x0: {LOOPS} {text}\n")
+
+
+def test_an_executable_that_the_setups_image_isnt_made_of_is_refused(tool: Tool) -> None:
+    words = ("--setup", "examples/c/pid.toml", "--elf", LOOPS, "--objdump", "")
+    ran = tool("fp_trace", *words, given="")
+    text = f"the image isn't made of {LOOPS}: make it again by `elf`"
+    assert (ran.returncode, ran.stdout) == (2, "")
+    assert ran.stderr.startswith("fp_trace: 0x0 ") and ran.stderr.endswith(f": {text}\n")
 
 
 def test_an_address_far_beyond_code_has_its_word_for_a_text(tool: Tool, tmp_path: Path) -> None:

@@ -334,7 +334,9 @@ def test_functions_of_an_executable(tool: Tool, tmp_path: Path) -> None:
         "--flexpret",
         flexpret,
     )
-    lines = shown(tool, *words)
+    lines = shown(tool, *words, status=2)
+    trap = "the execution from cycle 3988 didn't end: trap 3 breakpoint in cycle 3992 at 0x24 broken"
+    assert [it for it in lines if it.startswith("UNKNOWN")] == [lines[0]] == [f"UNKNOWN T0 broken: {trap}"]
     assert "inner 111 12 12.0 12 8 12 1.00 -" in lines
     assert "outer 111 28 28.0 28 0 28 1.00 -" in lines
     assert not any(line.startswith("start ") for line in lines)

@@ -8,9 +8,9 @@ from typing import Mapping, Sequence
 
 from fptools.budget_files import Budget, Result
 from fptools.budget_runs import Compared, Runs
-from fptools.budgets import Judge, other_word
+from fptools.budgets import Judge
 from fptools.disassembly import Disassembler, find_tool
-from fptools.elf import Program
+from fptools.elf import Program, other_word
 from fptools.html.issues import Span, Spot, read_issues, spots_of
 from fptools.html.timeline import MOST_WINDOW, Painter, Timeline
 from fptools.image import read_image
