@@ -28,6 +28,19 @@ ln -s "$view" flexpret-view
 # The commands that a page shows without `$`, as its line has them: `run` until a page is found that has it, then `shown`.
 declare -A known
 
+# The script as one that has built the program: tools may call either.
+mkdir -p "$work/script/crates/flexpret_cli/out"
+ln -s "$top/tools" "$work/script/tools"
+ln -s "$(readlink -f "$FLEXPRET")" "$work/script/crates/flexpret_cli/out/flexpret_cli"
+cp "$top/flexpret" "$work/script"
+touch "$work/script/installed"
+
+# A command with the program, and again with the script if it calls a tool that asks for bounds.
+by_either() {
+    as_shown "$1"
+    case $1 in *fp_budget* | *fp_visits* | *fp_report*) FLEXPRET=$work/script/flexpret as_shown "$1" ;; esac
+}
+
 # A run of some minutes, which bench/views.sh tries in a shorter one.
 readonly LONG='./flexpret-view turns examples/drive.toml --from 3000000000 --to 3000000060'
 
@@ -36,12 +49,12 @@ try_command() {
     "$LONG") ;;
     tools/fp_report*)
         if python3 -c 'import jinja2' 2>/dev/null; then
-            as_shown "$1"
+            by_either "$1"
         else
             echo "not tried, since jinja2 isn't installed (Debian: python3-jinja2): $1"
         fi
         ;;
-    *) as_shown "$1" ;;
+    *) by_either "$1" ;;
     esac
 }
 

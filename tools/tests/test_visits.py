@@ -258,6 +258,14 @@ def test_a_trace_of_another_program(tool: Tool) -> None:
     assert text in ran.stderr
 
 
+def test_an_executable_of_which_the_image_isnt_made(tool: Tool) -> None:
+    other = "tools/tests/data/calls.elf"
+    words = ("examples/c/pid.trace", "--setup", "examples/c/pid.toml", "--thread", 0, "--elf", other, "--no-bounds")
+    text = f"0x0 start: the image isn't made of {other}: make it again by `elf`"
+    assert refused(tool, *words, "--section", "0x0:0x8") == text
+    assert refused(tool, *words) == text
+
+
 def test_a_trace_of_another_thread(tool: Tool, tmp_path: Path) -> None:
     trace = tmp_path / "it.trace"
     trace.write_text("         1 00000000 200000b7 x01=20000000\n")
