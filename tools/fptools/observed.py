@@ -342,9 +342,10 @@ def run_and_observe(
     name: str = "fp_visits",
 ) -> Observation:
     """Runs a thread for some cycles and looks at its trace, from cycle `start` on and before `end`."""
-    assert question.thread is not None
+    thread = question.thread
+    assert thread is not None
     most = min(cycles, end) if end is not None else cycles
     question = replace(question, cycles=cycles if end is None else min(cycles, end + RETIRES))
-    with opened_run(flexpret, setup.path, question.thread, cycles) as source:
-        reader = TraceReader(source, f"T{question.thread}", start, end, Progress(name, most))
+    with opened_run(flexpret, setup.path, thread, cycles) as source:
+        reader = TraceReader(source, f"T{thread}", start, end, Progress(name, most))
         return observe(reader, question)
