@@ -1,7 +1,7 @@
-"""The checksums of the sources from which an executable was built, as its section .fp_sources has them.
+"""The checksums of an executable's sources, as its section .fp_sources has them.
 
-Each object has the lines of `sha256sum` for its sources and headers; a linker puts them one behind the other.
-The names are those that the compiler was given, from the folder in which it ran."""
+Each object has the lines of `sha256sum` for its sources and headers; a linker puts them one behind
+the other. The names are those that the compiler was given, from the folder in which it ran."""
 from __future__ import annotations
 
 import hashlib
@@ -34,7 +34,8 @@ def checksum(file: Path) -> str:
 
 
 def sums_of(record: Mapping[str, set[str]], file: Path) -> set[str]:
-    """The checksums that a record has of a file; none where it doesn't have it. Of several names the longest counts."""
+    """The checksums that a record has of a file; none where it doesn't have it. Of several names the
+    longest counts."""
     names = [name for name in record if is_end_of(name, file)]
     return record[max(names, key=lambda name: len(Path(name).parts))] if names else set()
 
@@ -57,8 +58,9 @@ def inner_parts(file: Path) -> tuple[str, ...]:
 
 
 def first_changed(record: Mapping[str, set[str]], found: Mapping[str, Iterable[Path]]) -> str:
-    """The first name of a record of which the files that were found don't have each checksum; empty where there
-    is none. A name of which no file is found counts only where objects were made from different texts of it."""
+    """The first name of a record of which the files that were found don't have each checksum; empty
+    where there is none. A name of which no file is found counts only where objects were made from
+    different texts of it."""
     for name, sums in sorted(record.items()):
         files = [*found.get(name, ())]
         if files and not sums <= {checksum(it) for it in files} or not files and len(sums) > 1:

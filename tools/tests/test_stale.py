@@ -64,7 +64,9 @@ class Build:
             shutil.copy(TOP / "examples/c" / name, folder)
         self.write(31)
         (folder / "t0_v.c").write_text(MAIN)
-        (folder / "t1_w.c").write_text('#include "flexpret.h"\nvoid main1(void) { for (;;) FP_PORT = 2; }\n')
+        (folder / "t1_w.c").write_text(
+            '#include "flexpret.h"\nvoid main1(void) { for (;;) FP_PORT = 2; }\n'
+        )
         self.setup = folder / "own.toml"
         regions = '"T0", "T1", "T2", "T3", "T4", "T5", "T6"'
         text = setup_text(str(folder / "own.fpx")).replace(", ".join(['"readonly"'] * 7), regions)
@@ -76,7 +78,10 @@ class Build:
     def make(self, *words: str, options: str = "OPTIONS=-O2 -g") -> list[str]:
         """The sources that are compiled or assembled."""
         ran = subprocess.run(
-            ["make", "-C", str(self.folder), *WORDS, LAYOUT, options, *words], capture_output=True, text=True, check=False
+            ["make", "-C", str(self.folder), *WORDS, LAYOUT, options, *words],
+            capture_output=True,
+            text=True,
+            check=False,
         )
         assert ran.returncode == 0, ran.stderr
         lines = (line.split() for line in ran.stdout.splitlines() if " -c " in line)
@@ -87,7 +92,16 @@ class Build:
         flexpret = program(self.folder)
         image = subprocess.run([flexpret, "elf", self.elf], capture_output=True, check=True).stdout
         (self.folder / "own.fpx").write_bytes(image)
-        section = ("--from-label", "a_begin", "--to-label", "a_end", "--cycles", 10000, "--flexpret", flexpret)
+        section = (
+            "--from-label",
+            "a_begin",
+            "--to-label",
+            "a_end",
+            "--cycles",
+            10000,
+            "--flexpret",
+            flexpret,
+        )
         ran = tool("fp_budget", self.elf, "--setup", self.setup, "--thread", 0, *section, *words)
         return ran.returncode, ran.stdout.split("\n")[0]
 
@@ -120,7 +134,9 @@ def test_an_executable_of_which_an_object_is_older(build: Build, tool: Tool) -> 
     build.make()
     build.write(7)
     includes = '#include "flexpret.h"\n#include "filter.h"\n'
-    (build.folder / "t1_w.c").write_text(f"{includes}void main1(void) {{ for (;;) FP_PORT = filter(1); }}\n")
+    (build.folder / "t1_w.c").write_text(
+        f"{includes}void main1(void) {{ for (;;) FP_PORT = filter(1); }}\n"
+    )
     assert build.make("-o", "t0_v.o", "-o", "filter.h") == ["t1_w.laid.s"]
     record = Program(build.elf).record
     assert record is not None and len(record["filter.h"]) == 2
@@ -178,7 +194,9 @@ def test_other_options_and_tools_build_again(build: Build, tmp_path: Path) -> No
     assert build.make("LAYOUT_OPTIONS=--rotate=4", options="OPTIONS=-Os -g") == every
     assert build.make("LAYOUT=", options="OPTIONS=-Os -g") == ["start.s", "t0_v.c", "t1_w.c"]
     other = tmp_path / "other"
-    shutil.copytree(TOOLS / "fptools", other / "fptools", ignore=shutil.ignore_patterns("__pycache__"))
+    shutil.copytree(
+        TOOLS / "fptools", other / "fptools", ignore=shutil.ignore_patterns("__pycache__")
+    )
     shutil.copy(TOOLS / "fp_layout", other)
     named = f"FP_LAYOUT={other / 'fp_layout'}"
     assert build.make(named) == every
@@ -198,7 +216,9 @@ def test_clean_removes_what_was_made(build: Build) -> None:
 
 @pytest.mark.parametrize("words", [(), ("TOOLS=llvm",)], ids=["gnu", "llvm"])
 @pytest.mark.parametrize("more", [(), ("LAYOUT=",)], ids=["laid", "kept"])
-def test_each_object_has_its_sources(build: Build, words: tuple[str, ...], more: tuple[str, ...]) -> None:
+def test_each_object_has_its_sources(
+    build: Build, words: tuple[str, ...], more: tuple[str, ...]
+) -> None:
     """Also where the linker drops what nothing names."""
     needs(*(LLVM if words else ()))
     link = "ld.lld" if words else "riscv64-unknown-elf-ld -m elf32lriscv"
@@ -213,7 +233,9 @@ def test_each_object_has_its_sources(build: Build, words: tuple[str, ...], more:
         assert named <= record.keys() <= named | {"t1_w.c"}
         assert all(sums == {checksum(build.folder / name)} for name, sums in record.items())
     (build.folder / "inner.s").write_text("        nop\n        nop\n")
-    assert build.make(*words, *more, *linker, options="OPTIONS=-O2 -g -ffunction-sections") == ["start.s"]
+    assert build.make(*words, *more, *linker, options="OPTIONS=-O2 -g -ffunction-sections") == [
+        "start.s"
+    ]
 
 
 def test_a_header_that_is_gone_stops_nothing(build: Build) -> None:
@@ -225,7 +247,9 @@ def test_a_header_that_is_gone_stops_nothing(build: Build) -> None:
 
 def test_checksums_of_names() -> None:
     sums = ["a" * 64, "b" * 64, "c" * 64]
-    data = "".join(f"{it}  {name}\n" for it, name in zip(sums, ("x.c", "io/x.h", "../x.h"))).encode()
+    data = "".join(
+        f"{it}  {name}\n" for it, name in zip(sums, ("x.c", "io/x.h", "../x.h"))
+    ).encode()
     record = read_record(data + b"\0" + f"{sums[1]}  x.c\n".encode())
     assert record == {"x.c": {sums[0], sums[1]}, "io/x.h": {sums[1]}, "../x.h": {sums[2]}}
     assert sums_of(record, Path("/a/b/../io/x.h")) == {sums[1]}

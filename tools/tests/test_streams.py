@@ -31,7 +31,13 @@ def budgets(folder: Path, *tables: tuple[str, str]) -> Path:
 
 def test_a_warning_does_not_hide_a_bound(tool: Tool, tmp_path: Path) -> None:
     table = ("0x10", "0x3c")
-    ran = tool("fp_budget", "examples/sum.toml", budgets(tmp_path, table, table), "--flexpret", warns(tmp_path))
+    ran = tool(
+        "fp_budget",
+        "examples/sum.toml",
+        budgets(tmp_path, table, table),
+        "--flexpret",
+        warns(tmp_path),
+    )
     assert (ran.returncode, ran.stdout) == (0, "holds    T0 it: 184 of 1000 cycles (1840 ns)\n" * 2)
     assert ran.stderr.splitlines().count(WARNING) == 1
     ran = tool("fp_visits", *SUM, "--flexpret", warns(tmp_path))
@@ -40,7 +46,13 @@ def test_a_warning_does_not_hide_a_bound(tool: Tool, tmp_path: Path) -> None:
 
 
 def test_a_refusal_is_named_without_what_explains_it(tool: Tool, tmp_path: Path) -> None:
-    ran = tool("fp_budget", "examples/sum.toml", budgets(tmp_path, ("0x10", "0x44")), "--flexpret", warns(tmp_path))
+    ran = tool(
+        "fp_budget",
+        "examples/sum.toml",
+        budgets(tmp_path, ("0x10", "0x44")),
+        "--flexpret",
+        warns(tmp_path),
+    )
     assert (ran.returncode, WARNING in ran.stdout + ran.stderr) == (2, False)
     assert ran.stdout.startswith("UNKNOWN  T0 it: status 6: refused bound 3 TimedWait 00000040: ")
 
@@ -49,8 +61,13 @@ def test_a_program_that_only_writes_standard_error(tool: Tool, tmp_path: Path) -
     script = tmp_path / "fails"
     script.write_text("#!/bin/sh\necho flexpret: out of memory >&2\nexit 9\n")
     script.chmod(0o755)
-    ran = tool("fp_budget", "examples/sum.toml", budgets(tmp_path, ("0x10", "0x3c")), "--flexpret", script)
-    assert (ran.returncode, ran.stdout) == (2, "UNKNOWN  T0 it: status 9: flexpret: out of memory\n")
+    ran = tool(
+        "fp_budget", "examples/sum.toml", budgets(tmp_path, ("0x10", "0x3c")), "--flexpret", script
+    )
+    assert (ran.returncode, ran.stdout) == (
+        2,
+        "UNKNOWN  T0 it: status 9: flexpret: out of memory\n",
+    )
 
 
 @pytest.mark.parametrize("kind", ["flexpret", "script"])

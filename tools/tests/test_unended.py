@@ -47,7 +47,12 @@ TRAP = "trap 4 misaligned load in cycle"
 
 
 def made(
-    folder: Path, handler: str = "stopped", inside: str = "nop", behind: str = "nop", cycles: int = 4000, delay: int = 9
+    folder: Path,
+    handler: str = "stopped",
+    inside: str = "nop",
+    behind: str = "nop",
+    cycles: int = 4000,
+    delay: int = 9,
 ) -> Made:
     source = STEPS.format(handler=handler, inside=inside, behind=behind, delay=delay)
     return make(folder, source, cycles)
@@ -61,7 +66,9 @@ def visits(tool: Tool, it: Made, most: int | None = 400) -> tuple[int, list[str]
         words += ["--section", f"it={begin}:{end}"]
     else:
         budgets = it.folder / "budgets.toml"
-        table = f'[[budget]]\nname = "it"\nthread = 0\nfrom = {begin}\nto = {end}\ncycles = {most}\n'
+        table = (
+            f'[[budget]]\nname = "it"\nthread = 0\nfrom = {begin}\nto = {end}\ncycles = {most}\n'
+        )
         budgets.write_text(table)
         words += ["--budgets", budgets]
     ran = tool("fp_visits", *words)
@@ -81,18 +88,26 @@ def test_a_trap_that_does_not_come_back(tool: Tool, tmp_path: Path, handler: str
     status, lines = visits(tool, it, 400)
     start = lines[0].split("from cycle ")[1].split(";")[0]
     assert status == 1
-    assert lines[0].startswith("OVER    T0 it: ") and f"the execution from cycle {start} didn't end: {TRAP}" in lines[0]
+    assert (
+        lines[0].startswith("OVER    T0 it: ")
+        and f"the execution from cycle {start} didn't end: {TRAP}" in lines[0]
+    )
     assert lines[0].endswith(f" at {it.labels['go_on']:#x}")
     for most in (400000, None):
         status, lines = visits(tool, it, most)
         assert status == 2
-        assert lines[0].startswith(f"UNKNOWN T0 it: the execution from cycle {start} didn't end: {TRAP}")
+        assert lines[0].startswith(
+            f"UNKNOWN T0 it: the execution from cycle {start} didn't end: {TRAP}"
+        )
 
 
 def test_a_trap_from_which_the_section_begins_again(tool: Tool, tmp_path: Path) -> None:
     status, lines = visits(tool, made(tmp_path, "again", INSIDE))
     assert status == 2
-    assert lines[0].startswith("UNKNOWN T0 it: the execution from cycle ") and f"didn't end: {TRAP}" in lines[0]
+    assert (
+        lines[0].startswith("UNKNOWN T0 it: the execution from cycle ")
+        and f"didn't end: {TRAP}" in lines[0]
+    )
 
 
 def test_a_trap_that_comes_back(tool: Tool, tmp_path: Path) -> None:
@@ -132,7 +147,10 @@ def test_no_execution(tool: Tool, tmp_path: Path) -> None:
     assert visits(tool, it)[0] == 2
     assert visits(tool, it, None)[0] == 0
     status, lines = visits(tool, made(tmp_path, cycles=44))
-    assert (status, "UNKNOWN T0 it: no execution ended in these cycles: one began in cycle " in lines[0]) == (2, True)
+    assert (
+        status,
+        "UNKNOWN T0 it: no execution ended in these cycles: one began in cycle " in lines[0],
+    ) == (2, True)
 
 
 # From here on executables of C.
@@ -190,10 +208,20 @@ class Case:
         start = (TOP / "examples/c/start.s").read_text()
         (folder / "start.s").write_text(start[: start.index("start_thread 1")])
         (folder / "t0_it.c").write_text(f"{HEAD}{step}{MAIN}")
-        made_by = ["make", "-s", "-C", str(folder), "PROGRAM=it", "OBJECTS=start.o t0_it.o", "OPTIONS=-O2 -g"]
+        made_by = [
+            "make",
+            "-s",
+            "-C",
+            str(folder),
+            "PROGRAM=it",
+            "OBJECTS=start.o t0_it.o",
+            "OPTIONS=-O2 -g",
+        ]
         subprocess.run([*made_by, f"FP_LAYOUT={TOP / 'tools/fp_layout'}"], check=True)
         self.elf, self.flexpret = folder / "it.elf", program(folder)
-        image = subprocess.run([self.flexpret, "elf", self.elf], capture_output=True, check=True).stdout
+        image = subprocess.run(
+            [self.flexpret, "elf", self.elf], capture_output=True, check=True
+        ).stdout
         (folder / "it.fpx").write_bytes(image)
         self.setup = folder / "it.toml"
         more = setup_text(str(folder / "it.fpx"), "T0 S S S D D D D", inputs="[[0, 7]]")
@@ -203,7 +231,15 @@ class Case:
         """The status of fp_budget with a run, and its first line."""
         words = ("--thread", 0, "--from-label", "a_begin", "--to-label", "a_end", "--cycles", most)
         ran = self.tool(
-            "fp_budget", self.elf, "--setup", self.setup, *words, "--runs", cycles, "--flexpret", self.flexpret
+            "fp_budget",
+            self.elf,
+            "--setup",
+            self.setup,
+            *words,
+            "--runs",
+            cycles,
+            "--flexpret",
+            self.flexpret,
         )
         return ran.returncode, ran.stdout.splitlines()[0] if ran.stdout else ran.stderr
 
@@ -220,16 +256,25 @@ class Case:
 
 @pytest.mark.parametrize(
     ("step", "trap"),
-    [(LOADS_BEYOND, "trap 5 load access in cycle "), (STORES_BEYOND, "trap 0 misaligned jump in cycle ")],
+    [
+        (LOADS_BEYOND, "trap 5 load access in cycle "),
+        (STORES_BEYOND, "trap 0 misaligned jump in cycle "),
+    ],
     ids=["loads", "stores"],
 )
 def test_a_step_that_crashes(tool: Tool, tmp_path: Path, step: str, trap: str) -> None:
     case = Case(tool, tmp_path, step)
     status, line = case.budget(1000)
-    assert (status, line.startswith("OVER     T0 a_begin to a_end: an execution that didn't end takes ")) == (1, True)
+    assert (
+        status,
+        line.startswith("OVER     T0 a_begin to a_end: an execution that didn't end takes "),
+    ) == (1, True)
     assert f"didn't end: {trap}" in line and " step+0x" in line
     status, line = case.budget(100000)
-    assert (status, line.startswith("UNKNOWN  T0 a_begin to a_end: the execution from cycle ")) == (2, True)
+    assert (status, line.startswith("UNKNOWN  T0 a_begin to a_end: the execution from cycle ")) == (
+        2,
+        True,
+    )
     assert f"didn't end: {trap}" in line and " step+0x" in line
 
 
