@@ -171,7 +171,8 @@ class ThreadCode:
             word.writes_mepc and not self.code.skips_a_word(word) for word in self.whole.words.values()
         )
 
-    def _words(self) -> list[Word]:
+    @property
+    def may_issue(self) -> list[Word]:
         """What it may issue, by address: each word of the image, where a jump may lead anywhere."""
         if self.jumps_anywhere:
             return self.code.placed
@@ -180,12 +181,12 @@ class ThreadCode:
     @property
     def configuration_write(self) -> Word | None:
         """The first write of slots, modes or regions among them."""
-        return next((it for it in self._words() if it.writes_configuration), None)
+        return next((it for it in self.may_issue if it.writes_configuration), None)
 
     @property
     def expiry(self) -> Word | None:
         """The first EE among them."""
-        return next((word for word in self._words() if word.arms), None)
+        return next((word for word in self.may_issue if word.arms), None)
 
     def handlers(self, start: int) -> list[int]:
         """Where traps of a section may go that begins at an address: to each value of mtvec, and to 0 if it can be

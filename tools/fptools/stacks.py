@@ -1,0 +1,131 @@
+"""Whether the stack of each thread fits: the deepest one by the calls of its code, with trap handlers on top, and the room
+that the data leave.
+
+    from fptools.stacks import Stacks
+
+    for stack in Stacks(setup, image, program).all():
+        print(stack)
+
+A trap may come at any word, so the deepest handler is added to the deepest point. docs/C.md has what this assumes."""
+from __future__ import annotations
+
+from dataclasses import dataclass
+from functools import cached_property
+from typing import Mapping
+
+from fptools.budget_files import Verdict
+from fptools.elf import Program
+from fptools.setup import Setup, ThreadTable
+from fptools.stack_depths import Depth
+from fptools.stack_flow import SP, UnknownStack
+from fptools.stack_room import Data, data_of, room_of
+from fptools.stack_threads import Deepest, deepest_of
+from fptools.thread import Code, ThreadCode
+from fptools.words import OPCODE_STORE
+
+NO_STACK = "no stack: nothing is stored by sp"
+
+
+@dataclass(frozen=True)
+class Frame:
+    """A function in the chain to the deepest point, and its own bytes."""
+
+    name: str
+    line: str  # of the word that is deepest in it, or calls the next one; empty where it isn't known
+    bytes: int
+    is_trap: bool
+
+    def __str__(self) -> str:
+        return f"{'trap: ' if self.is_trap else ''}{self.name} ({self.bytes:,})"
+
+
+@dataclass(frozen=True)
+class Stack:
+    """The stack of a thread: its bytes and those that there are, where they are known."""
+
+    thread: int
+    verdict: Verdict
+    text: str
+    bytes: int | None = None
+    room: int | None = None
+    top: int | None = None
+    frames: tuple[Frame, ...] = ()
+    notes: tuple[str, ...] = ()
+
+    @property
+    def word(self) -> str:
+        return {Verdict.HOLDS: "holds", Verdict.OVER: "OVER"}.get(self.verdict, "UNKNOWN")
+
+    def __str__(self) -> str:
+        return f"{self.word:<8} T{self.thread} stack: {self.text}"
+
+
+class Stacks:
+    """The stacks of the threads of a setup, by the words of its image. An executable gives names, lines and data."""
+
+    def __init__(self, setup: Setup, image: Mapping[int, int], program: Program) -> None:
+        self.setup, self.image, self.program = setup, image, program
+        self.code = Code(image)
+        self._found: dict[int, Stack] = {}
+
+    def all(self) -> list[Stack]:
+        return [self.of(it) for it in self.setup.threads]
+
+    def of(self, table: ThreadTable) -> Stack:
+        """The stack of a thread."""
+        if table.id not in self._found:
+            self._found[table.id] = self._known(table)
+        return self._found[table.id]
+
+    def _known(self, table: ThreadTable) -> Stack:
+        try:
+            found = deepest_of(self.setup, self.code, table, self.name)
+            return self._fitting(table, found)
+        except UnknownStack as why:
+            if not self._is_used(table):
+                return Stack(table.id, Verdict.HOLDS, NO_STACK, 0)
+            return Stack(table.id, Verdict.UNKNOWN, f"{self.where(why.pc)}: {why}")
+
+    def _is_used(self, table: ThreadTable) -> bool:
+        """Whether a word that the thread may issue stores by sp."""
+        words = ThreadCode(self.code, table.entry).may_issue
+        return any(it.is_code and it.opcode == OPCODE_STORE and it.rs1 == SP for it in words)
+
+    def _fitting(self, table: ThreadTable, found: Deepest) -> Stack:
+        """A stack of known depth, in its room."""
+        if not found.depth.bytes:
+            return Stack(table.id, Verdict.HOLDS, NO_STACK, 0)
+        used = [
+            Data(f"what {self.where(pc)} uses", at, at + size) for pc, at, size in found.uses
+        ]
+        room = room_of(self.setup, table.id, found.top, [*self._data, *used])
+        is_over = found.depth.bytes > room.bytes
+        frames = self._frames(found.depth)
+        text = f"{found.depth.bytes:,} of {room.bytes:,} bytes: {' > '.join(map(str, frames))}"
+        text += f"; below is {room.below}" if is_over else ""
+        verdict = Verdict.OVER if is_over else Verdict.HOLDS
+        return Stack(
+            table.id, verdict, text, found.depth.bytes, room.bytes, found.top, frames, found.notes
+        )
+
+    @cached_property
+    def _data(self) -> list[Data]:
+        return data_of(self.program, self.image)
+
+    def _frames(self, depth: Depth) -> tuple[Frame, ...]:
+        """The chain to the deepest point, without an entry that has no bytes of its own."""
+        steps = [it for at, it in enumerate(depth.steps) if it.bytes or at]
+        lines = [self.program.line_of(it.pc) for it in steps]
+        return tuple(
+            Frame(self.name(it.pc), str(line or ""), it.bytes, it.is_trap)
+            for it, line in zip(steps, lines)
+        )
+
+    def name(self, pc: int) -> str:
+        """The function of a word, or the symbol before it."""
+        function = self.program.function_at(pc)
+        return function.name if function else self.program.name_of(pc).split("+")[0] or hex(pc)
+
+    def where(self, pc: int) -> str:
+        line = self.program.line_of(pc)
+        return f"{pc:#x} {self.program.name_of(pc)}".rstrip() + (f" ({line})" if line else "")
