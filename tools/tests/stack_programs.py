@@ -1,0 +1,110 @@
+"""Programs of data/stack with their depth: by fp_stack, by a run, and by the compiler's -fstack-usage."""
+from __future__ import annotations
+
+import json
+import subprocess
+from dataclasses import dataclass
+from pathlib import Path
+from typing import Any
+
+from conftest import TOOLS, TOP, Tool
+from fptools.trace import read_trace
+from fptools.words import OPCODE_AUIPC, OPCODE_LUI, Word
+
+STACK = TOOLS / "tests/data/stack"
+C = TOP / "examples/c"
+LEVELS = ("-O0", "-O1", "-O2", "-O3", "-Os")
+GCC = (
+    "riscv64-unknown-elf-gcc -march=rv32im_zicsr -mabi=ilp32 -ffreestanding -fno-jump-tables"
+    " -fno-reorder-blocks-and-partition -fno-ipa-icf -fstack-usage -g"
+)
+CLANG = (
+    "clang --target=riscv32-unknown-elf -march=rv32im -mabi=ilp32 -ffreestanding -fno-jump-tables"
+    " -fstack-usage -gdwarf-4"
+)
+COMPILERS = {"gcc": GCC, "clang": CLANG}
+LINKERS = {"gcc": "riscv64-unknown-elf-ld -m elf32lriscv", "clang": "ld.lld"}
+CALLS = "-fno-optimize-sibling-calls"
+SETUP = """period = 10
+image = "{folder}/own.fpx"
+slots = ["T0", "D", "D", "D", "D", "D", "D", "D"]
+i_regions = ["T0", "T1", "T2", "T3", "T4", "T5", "T6", "readonly"]
+d_regions = ["T0", "T1", "T2", "T3", "T4", "T5", "T6", "shared"]
+[[thread]]
+id = 0
+mode = "hard"
+entry = 0
+confined = true
+inputs = [[0, 7], [4000, 6], [8000, 1], [12000, 255]]
+"""
+
+
+@dataclass
+class Built:
+    """A program for thread 0, with its setup and image."""
+
+    folder: Path
+    elf: Path
+    setup: Path
+    usage: dict[str, int]  # bytes of functions by -fstack-usage, those whose frames have a fixed size
+
+    def told(self, asking: Tool) -> tuple[int, dict[str, Any]]:
+        """The status of fp_stack, and its answer for thread 0."""
+        ran = asking("fp_stack", self.elf, "--setup", self.setup, "--json")
+        assert ran.stdout, ran.stderr
+        (stack,) = json.loads(ran.stdout)["stacks"]
+        return ran.returncode, stack
+
+    def lowest(self, flexpret: str, cycles: int = 30_000) -> int:
+        """How far sp goes below its first value in a run; the first halves of `la` don't count."""
+        words = [flexpret, "run", str(self.setup), "--thread", "0", "--cycles", str(cycles)]
+        with subprocess.Popen(words, stdout=subprocess.PIPE) as run:
+            assert run.stdout
+            values = [
+                event.value
+                for event in read_trace(run.stdout)
+                if event.register == 2 and event.value is not None
+                and Word(event.pc, event.bits).opcode not in (OPCODE_AUIPC, OPCODE_LUI)
+            ]  # fmt: skip
+        return values[0] - min(values) if values else 0
+
+
+def built(
+    flexpret: str, folder: Path, name: str, options: str, compiler: str = "gcc", laid: bool = False
+) -> Built:
+    """Compiles the sources of a name, in C or assembler, and links them with the start of thread 0."""
+    start = (C / "start.s").read_text().replace("start_thread 1", "")
+    (folder / "start.s").write_text(start)
+    objects = [compiled(folder, folder / "start.s", "", compiler)]
+    for source in sorted(STACK.glob(f"{name}.[cs]")):
+        objects.append(compiled(folder, source, f"{options} -I{C}", compiler, laid))
+    elf, image, setup = folder / "own.elf", folder / "own.fpx", folder / "own.toml"
+    call(f"{LINKERS[compiler]} -n -e 0 -T {C}/flexpret.ld -o {elf} {' '.join(it.name for it in objects)}", folder)
+    image.write_bytes(subprocess.run([flexpret, "elf", str(elf)], capture_output=True, check=True).stdout)
+    setup.write_text(SETUP.format(folder=folder))
+    return Built(folder, elf, setup, usage_of(folder))
+
+
+def compiled(folder: Path, source: Path, options: str, compiler: str, laid: bool = False) -> Path:
+    """The object of a source, which is thread 0's."""
+    made = folder / (source.name if source.stem == "start" else f"t0_{source.name}")
+    if made != source:
+        made.write_bytes(source.read_bytes())
+    command = f"{COMPILERS[compiler]} {options}" if source.suffix == ".c" else COMPILERS[compiler]
+    if laid:
+        call(f"{command} {CALLS} -S -o {made.stem}.compiled.s {made.name}", folder)
+        call(f"{TOOLS}/fp_layout {made.stem}.compiled.s -o {made.stem}.s", folder)
+        made, command = made.with_suffix(".s"), COMPILERS[compiler]
+    call(f"{command} -c -o {made.stem}.o {made.name}", folder)
+    return made.with_suffix(".o")
+
+
+def call(command: str, folder: Path) -> None:
+    ran = subprocess.run(command.split(), cwd=folder, capture_output=True, text=True, check=False)
+    assert ran.returncode == 0, f"{command}: {ran.stderr}"
+
+
+def usage_of(folder: Path) -> dict[str, int]:
+    """The bytes of frames that -fstack-usage states, by function."""
+    rows = [line.split("\t") for it in folder.glob("*.su") for line in it.read_text().splitlines()]
+    return {place.split(":")[-1]: int(size) for place, size, kind in rows if kind == "static"}
