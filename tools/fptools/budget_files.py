@@ -4,7 +4,7 @@ from __future__ import annotations
 from dataclasses import dataclass
 from enum import Enum, IntEnum
 from pathlib import Path
-from typing import Any, Mapping
+from typing import TYPE_CHECKING, Any, Mapping
 
 from fptools import require
 from fptools.setup import spelled
@@ -14,6 +14,9 @@ require("jsonschema")
 
 import jsonschema  # noqa: E402
 from jsonschema import ValidationError as ValidationError  # noqa: E402
+
+if TYPE_CHECKING:
+    from fptools.stacks import Stack
 
 SCHEMA = Path(__file__).resolve().parents[1] / "budgets.schema.json"
 
@@ -27,6 +30,7 @@ class Assumption(Enum):
     REACHED = "reached"
     MOVED_WORK = "moved work"
     SAME_SOURCES = "same sources"
+    STACK_FITS = "stack fits"
 
 
 class Verdict(IntEnum):
@@ -82,6 +86,7 @@ class Result:
     functions: tuple[str, ...] = ()
     executions: int | None = None  # how many a run had; None without a run
     longest: int | None = None  # the cycles of the longest of them
+    stack: Stack | None = None  # of the thread; None where the budget is unknown for another reason
 
     @property
     def note(self) -> str | None:

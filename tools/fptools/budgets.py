@@ -17,9 +17,11 @@ from fptools.returns import wrong_return
 from fptools.section import Exit, Loop, Section, WayOut, walk_all
 from fptools.setup import Setup
 from fptools.sources import Sources
+from fptools.stack_flow import SP
+from fptools.stacks import NO_OTHER_TRAP, Stack, Stacks
 from fptools.thread import Code, ThreadCode
 from fptools.values import clobbered_by
-from fptools.words import MRET, OPCODE_AUIPC, OPCODE_JALR
+from fptools.words import MRET, OPCODE_AUIPC, OPCODE_JALR, OPCODE_LOAD, RETURN_ADDRESS
 
 __all__ = ["HELP", "Assumption", "Budget", "Judge", "Result", "Unknown", "Verdict"]
 
@@ -71,10 +73,17 @@ class Asked:
     begin: int
     notes: list[str] = field(default_factory=list)
     loops: list[LoopFact] = field(default_factory=list)
+    stack: Stack | None = None
 
     @property
     def section(self) -> Section:
         return self.parts[0]
+
+    @property
+    def loads_a_return(self) -> bool:
+        """Whether a word of its code loads x1 or sp from memory, as a function does that calls others."""
+        words = (word for part in self.parts for word in part.reached.values())
+        return any(it.opcode == OPCODE_LOAD and it.rd in (RETURN_ADDRESS, SP) for it in words)
 
     def assumes(self, what: Assumption, note: str) -> bool:
         """Whether the budget takes something for granted; then it is noted."""
@@ -117,6 +126,7 @@ class Judge:
             tuple(asked.notes),
             tuple(asked.loops),
             tuple(self.where(part.start) for part in asked.parts[1:]),
+            stack=asked.stack,
         )
 
     def unknown(self, budget: Budget, why: Exception) -> Result:
@@ -149,6 +159,7 @@ class Judge:
         self._look_at_sources(asked)
         if bound == 0:
             raise Unknown("a bound of 0: nothing of the section issues")
+        self._look_at_stack(asked)
         return bound
 
     def look_at_code(self, asked: Asked) -> None:
@@ -376,6 +387,28 @@ class Judge:
         note = self.other_source
         if note and not asked.assumes(Assumption.SAME_SOURCES, note):
             raise Unknown(f"{note}: build it again by `make`, or assume = [{Assumption.SAME_SOURCES.value!r}]")
+
+    def _look_at_stack(self, asked: Asked) -> None:
+        """The thread's stack fits: a lost return address ends every bound. Where that isn't known, code that loads none holds
+        with a note."""
+        table = self.setup.thread(asked.budget.thread)
+        if table is None:
+            return
+        stack = asked.stack = self._stacks.of(table)
+        if stack.verdict is Verdict.HOLDS:
+            is_noted = NO_OTHER_TRAP in stack.note and Assumption.NO_TRAPS not in asked.budget.assume
+            asked.notes += [f"the stack: {stack.note}"] * is_noted
+            return
+        is_over, words = stack.verdict is Verdict.OVER, Assumption.STACK_FITS
+        note = f"{'the stack may not fit' if is_over else 'whether the stack fits is unknown'}: {stack.text}"
+        if not is_over and not asked.loads_a_return:
+            asked.notes.append(f"assumes {words.value}: {note}")
+        elif not asked.assumes(words, note):
+            raise Unknown(f"{note}; if it fits: assume = [{words.value!r}]")
+
+    @cached_property
+    def _stacks(self) -> Stacks:
+        return Stacks(self.setup, self.image, self.program)
 
     @property
     def other_source(self) -> str:

@@ -7,6 +7,7 @@ from typing import Any
 from xml.etree import ElementTree
 
 from fptools.budget_files import Result, Verdict
+from fptools.stack_reports import stack_fields
 
 NOT_XML = re.compile("[^\t\n\r -\ud7ff\ue000-\ufffd\U00010000-\U0010ffff]")
 
@@ -43,6 +44,8 @@ def _add_numbers(case: ElementTree.Element, result: Result) -> None:
     """Adds the bound, the budget and what it leaves, in cycles, and what is taken for granted."""
     numbers = {"bound": result.bound, "budget": result.budget.cycles, "slack": result.slack, "ns": result.ns}
     numbers |= {"executions": result.executions, "longest": result.longest}
+    if result.stack:
+        numbers |= {"stack": result.stack.bytes, "room": result.stack.room}
     known = {name: str(number) for name, number in numbers.items() if number is not None}
     known |= {f"note {at}": without_controls(note) for at, note in enumerate(result.notes, 1)}
     if not known:
@@ -76,6 +79,7 @@ def _fields(result: Result) -> dict[str, Any]:
         "text": result.text,
         "notes": list(result.notes),
         "assumes": sorted(it.value for it in budget.assume),
+        "stack": stack_fields(result.stack) if result.stack else None,
         "functions": list(result.functions),
         "loops": [
             {"at": it.where, "head": it.head, "last": it.last, "bound": it.bound, "by": it.by}

@@ -17,13 +17,22 @@ from fptools.budget_files import Verdict
 from fptools.elf import Program
 from fptools.setup import Setup, ThreadTable
 from fptools.stack_depths import Depth
-from fptools.stack_flow import SP, UnknownStack
-from fptools.stack_room import Data, data_of, room_of
+from fptools.stack_flow import SP, UnknownStack, is_half
+from fptools.stack_room import Data, data_of, is_data, room_of
+from fptools.stack_threads import NO_OTHER_TRAP as NO_OTHER_TRAP
 from fptools.stack_threads import Deepest, deepest_of
 from fptools.thread import Code, ThreadCode
-from fptools.words import OPCODE_STORE
+from fptools.words import (
+    OPCODE_AUIPC,
+    OPCODE_BRANCH,
+    OPCODE_JAL,
+    OPCODE_LUI,
+    OPCODE_REGISTERS,
+    OPCODE_STORE,
+    Word,
+)
 
-NO_STACK = "no stack: nothing is stored by sp"
+NO_STACK = "no stack: sp is no address of data"
 
 
 @dataclass(frozen=True)
@@ -51,6 +60,15 @@ class Stack:
     top: int | None = None
     frames: tuple[Frame, ...] = ()
     notes: tuple[str, ...] = ()
+
+    @property
+    def shown(self) -> str:
+        """Its text below a budget, where no verdict of its own is beside it."""
+        return f"unknown: {self.text}" if self.verdict is Verdict.UNKNOWN else self.text
+
+    @property
+    def note(self) -> str:
+        return "; ".join(self.notes)
 
     @property
     def word(self) -> str:
@@ -87,14 +105,31 @@ class Stacks:
             return Stack(table.id, Verdict.UNKNOWN, f"{self.where(why.pc)}: {why}")
 
     def _is_used(self, table: ThreadTable) -> bool:
-        """Whether a word that the thread may issue stores by sp."""
+        """Whether a word that the thread may issue uses sp as an address, or sets it to one of data. In assembler x2 may be a
+        register like others."""
         words = ThreadCode(self.code, table.entry).may_issue
-        return any(it.is_code and it.opcode == OPCODE_STORE and it.rs1 == SP for it in words)
+        return any(self._uses_sp(it) for it in words if it.is_code)
+
+    def _uses_sp(self, word: Word) -> bool:
+        if word.opcode == OPCODE_BRANCH:
+            return False
+        is_number = word.opcode in (OPCODE_LUI, OPCODE_AUIPC)
+        if is_number and word.rd == SP:
+            return any(is_data(it) for it in self._numbers(word))
+        has_two = word.opcode in (OPCODE_STORE, OPCODE_REGISTERS)
+        reads = not is_number and word.opcode != OPCODE_JAL and (word.rs1 == SP or has_two and word.rs2 == SP)
+        return reads and (word.opcode == OPCODE_STORE or word.rd != SP)
+
+    def _numbers(self, word: Word) -> tuple[int, ...]:
+        """The number that LUI or AUIPC gives sp, alone and with the next word, if that adds to it."""
+        number = (word.field(12, 20) << 12) + (word.pc if word.opcode == OPCODE_AUIPC else 0)
+        then = self.code.word(word.next)
+        return (number % 2**32, (number + then.immediate) % 2**32) if is_half(self.code, word) else (number % 2**32,)
 
     def _fitting(self, table: ThreadTable, found: Deepest) -> Stack:
         """A stack of known depth, in its room."""
         if not found.depth.bytes:
-            return Stack(table.id, Verdict.HOLDS, NO_STACK, 0)
+            return Stack(table.id, Verdict.HOLDS, "no stack: sp is never lowered", 0)
         used = [
             Data(f"what {self.where(pc)} uses", at, at + size) for pc, at, size in found.uses
         ]
