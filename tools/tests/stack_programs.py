@@ -1,13 +1,16 @@
 """Programs of data/stack with their depth: by fp_stack, by a run, and by the compiler's -fstack-usage."""
 from __future__ import annotations
 
-import json
 import subprocess
 from dataclasses import dataclass
+from functools import cache
 from pathlib import Path
-from typing import Any
 
-from conftest import TOOLS, TOP, Tool
+from conftest import TOOLS, TOP
+from fptools.elf import Program
+from fptools.image import read_image
+from fptools.setup import read_setup
+from fptools.stacks import Stack, Stacks
 from fptools.trace import read_trace
 from fptools.words import OPCODE_AUIPC, OPCODE_LUI, Word
 
@@ -48,12 +51,10 @@ class Built:
     setup: Path
     usage: dict[str, int]  # bytes of functions by -fstack-usage, those whose frames have a fixed size
 
-    def told(self, asking: Tool) -> tuple[int, dict[str, Any]]:
-        """The status of fp_stack, and its answer for thread 0."""
-        ran = asking("fp_stack", self.elf, "--setup", self.setup, "--json")
-        assert ran.stdout, ran.stderr
-        (stack,) = json.loads(ran.stdout)["stacks"]
-        return ran.returncode, stack
+    def stack(self) -> Stack:
+        """The stack of thread 0."""
+        (found,) = Stacks(read_setup(self.setup), read_image(self.setup.with_suffix(".fpx")), Program(self.elf)).all()
+        return found
 
     def lowest(self, flexpret: str, cycles: int = 30_000) -> int:
         """How far sp goes below its first value in a run; the first halves of `la` don't count."""
@@ -73,9 +74,8 @@ def built(
     flexpret: str, folder: Path, name: str, options: str, compiler: str = "gcc", laid: bool = False
 ) -> Built:
     """Compiles the sources of a name, in C or assembler, and links them with the start of thread 0."""
-    start = (C / "start.s").read_text().replace("start_thread 1", "")
-    (folder / "start.s").write_text(start)
-    objects = [compiled(folder, folder / "start.s", "", compiler)]
+    (folder / "start.o").write_bytes(start_of(folder, compiler))
+    objects = [folder / "start.o"]
     for source in sorted(STACK.glob(f"{name}.[cs]")):
         objects.append(compiled(folder, source, f"{options} -I{C}", compiler, laid))
     elf, image, setup = folder / "own.elf", folder / "own.fpx", folder / "own.toml"
@@ -85,11 +85,25 @@ def built(
     return Built(folder, elf, setup, usage_of(folder))
 
 
+@cache
+def _starts() -> dict[str, bytes]:
+    return {}
+
+
+def start_of(folder: Path, compiler: str) -> bytes:
+    """The object in which thread 0 begins, of a compiler."""
+    if compiler not in _starts():
+        source = folder / "start.s"
+        source.write_text((C / "start.s").read_text().replace("start_thread 1", ""))
+        call(f"{COMPILERS[compiler]} -c -o start.o start.s", folder)
+        _starts()[compiler] = (folder / "start.o").read_bytes()
+    return _starts()[compiler]
+
+
 def compiled(folder: Path, source: Path, options: str, compiler: str, laid: bool = False) -> Path:
     """The object of a source, which is thread 0's."""
-    made = folder / (source.name if source.stem == "start" else f"t0_{source.name}")
-    if made != source:
-        made.write_bytes(source.read_bytes())
+    made = folder / f"t0_{source.name}"
+    made.write_bytes(source.read_bytes())
     command = f"{COMPILERS[compiler]} {options}" if source.suffix == ".c" else COMPILERS[compiler]
     if laid:
         call(f"{command} {CALLS} -S -o {made.stem}.compiled.s {made.name}", folder)
