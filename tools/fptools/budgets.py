@@ -18,7 +18,8 @@ from fptools.section import Exit, Loop, Section, WayOut, walk_all
 from fptools.setup import Setup
 from fptools.sources import Sources
 from fptools.stack_flow import SP
-from fptools.stacks import NO_OTHER_TRAP, Stack, Stacks
+from fptools.stack_threads import NO_OTHER_TRAP
+from fptools.stacks import Stack, Stacks
 from fptools.thread import Code, ThreadCode
 from fptools.values import clobbered_by
 from fptools.words import MRET, OPCODE_AUIPC, OPCODE_JALR, OPCODE_LOAD, RETURN_ADDRESS

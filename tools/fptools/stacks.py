@@ -19,7 +19,6 @@ from fptools.setup import Setup, ThreadTable
 from fptools.stack_depths import Depth
 from fptools.stack_flow import SP, UnknownStack, is_half
 from fptools.stack_room import Data, data_of, is_data, room_of
-from fptools.stack_threads import NO_OTHER_TRAP as NO_OTHER_TRAP
 from fptools.stack_threads import Deepest, deepest_of
 from fptools.thread import Code, ThreadCode
 from fptools.words import (

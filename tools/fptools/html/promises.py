@@ -29,7 +29,7 @@ CHECKS = (
     (
         "A stack overrun isn't detected",
         "until it leaves the region. Before that it overwrites the thread's own data. "
-        "For calls, no store may overwrite a return address.",
+        "fp_stack and fp_budget compare the deepest stack with the room. For calls, no store may overwrite a return address.",
     ),
     (
         "Marks don't stop the compiler.",
