@@ -16,6 +16,7 @@ import jsonschema  # noqa: E402
 from jsonschema import ValidationError as ValidationError  # noqa: E402
 
 if TYPE_CHECKING:
+    from fptools.path_facts import PathFacts
     from fptools.stacks import Stack
 
 SCHEMA = Path(__file__).resolve().parents[1] / "budgets.schema.json"
@@ -87,6 +88,7 @@ class Result:
     executions: int | None = None  # how many a run had; None without a run
     longest: int | None = None  # the cycles of the longest of them
     stack: Stack | None = None  # of the thread; None where the budget is unknown for another reason
+    path: PathFacts | None = None  # that costs the bound; None where it isn't asked for, or there is no bound
 
     @property
     def note(self) -> str | None:

@@ -12,6 +12,8 @@ from fptools.budget_files import Assumption, Budget, LoopFact, Result, Verdict
 from fptools.elf import Program, ProgramError, other_word
 from fptools.loops import StatedLoop, state_loops
 from fptools.moved import NotKnown, moved_word
+from fptools.path_facts import PathFacts, facts_of
+from fptools.paths import Search
 from fptools.program import Answer, Flexpret
 from fptools.returns import wrong_return
 from fptools.section import Exit, Loop, Section, WayOut, walk_all
@@ -106,6 +108,7 @@ class Judge:
     # Calls that the tool put beside the code, each with the function that it calls.
     put_calls: Mapping[int, int] = field(default_factory=dict)
     is_of_function: bool = False  # whether the sections are calls of functions
+    has_paths: bool = False  # whether results have the path that costs the bound
     _threads: dict[int, ThreadCode] = field(default_factory=dict)
     _changes: dict[int, frozenset[int]] = field(default_factory=dict)
 
@@ -128,7 +131,13 @@ class Judge:
             tuple(asked.loops),
             tuple(self.where(part.start) for part in asked.parts[1:]),
             stack=asked.stack,
+            path=self._path(asked, bound) if self.has_paths else None,
         )
+
+    def _path(self, asked: Asked, bound: int) -> PathFacts:
+        """The path that costs the bound, by a search of its own."""
+        search = Search(self.setup, asked.budget.thread, self.image, asked.parts)
+        return facts_of(search, bound, self.program, self.sources)
 
     def unknown(self, budget: Budget, why: Exception) -> Result:
         """The reason why a budget is unknown, and whether the sources are of another build."""

@@ -32,6 +32,7 @@ class Names:
     program: Program
     sources: Sources
     folder: Path  # where a setup and an image may be written
+    has_paths: bool = False  # whether results have the path that costs the bound
 
     def function(self, name: str, budget: Budget) -> Result:
         """The bound from a call of a function to the issue behind it."""
@@ -58,7 +59,9 @@ class Names:
         written.write_bytes(write_image(image))
         values: dict[str, Any] = {**self.setup.values, "image": str(written)}
         setup, is_of_function = replace(self.setup, values=values), function is not None
-        judge = Judge(self.flexpret, setup, image, program, self.sources, calls, is_of_function)
+        judge = Judge(
+            self.flexpret, setup, image, program, self.sources, calls, is_of_function, self.has_paths
+        )
         try:
             values["loop"] = self._tables(judge, budget)
         except (Unknown, ProgramError) as why:

@@ -7,6 +7,7 @@ from typing import Any
 from xml.etree import ElementTree
 
 from fptools.budget_files import Result, Verdict
+from fptools.path_facts import path_fields
 from fptools.stack_reports import stack_fields
 
 NOT_XML = re.compile("[^\t\n\r -\ud7ff\ue000-\ufffd\U00010000-\U0010ffff]")
@@ -80,6 +81,7 @@ def _fields(result: Result) -> dict[str, Any]:
         "notes": list(result.notes),
         "assumes": sorted(it.value for it in budget.assume),
         "stack": stack_fields(result.stack) if result.stack else None,
+        "path": path_fields(result.path) if result.path else None,
         "functions": list(result.functions),
         "loops": [
             {"at": it.where, "head": it.head, "last": it.last, "bound": it.bound, "by": it.by}
