@@ -69,6 +69,8 @@ def _lines(steps: Counter[Step], program: Program, sources: Sources) -> Iterator
     """The cycles of each line: an issue has those up to the next one."""
     cycles, times, first = Counter[tuple[str, str]](), Counter[int](), dict[tuple[str, str], int]()
     for step, number in steps.items():
+        if not step.is_issue:
+            continue
         key = _function(step.pc, program), _place(step.pc, program)
         cycles[key] += number * step.cycles
         times[step.pc] += number

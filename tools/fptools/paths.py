@@ -22,11 +22,16 @@ ELSEWHERE = -1
 
 @dataclass(frozen=True)
 class Step:
-    """An issue at a word, the word of the next issue, and the cycles between the two."""
+    """An issue at a word, the word of the next issue, and the cycles between the two. Where a call has come back, a step of no
+    cycles leads from it to the word behind it; the issue is the return's, which leads elsewhere."""
 
     pc: int
     to: int
     cycles: int
+
+    @property
+    def is_issue(self) -> bool:
+        return self.cycles > 0
 
 
 @dataclass(eq=False)
@@ -159,7 +164,8 @@ class Search:
             for to, lag in edges_of(word):
                 yield to, self._hop(pc, to, lag)
         elif through := self._returned(callee):
-            yield word.next, chained(self._hop(pc, callee, REDIRECT_LAG), through)
+            back = {(at, at): Way(0, Step(pc, word.next, 0)) for at in self.turns.own}
+            yield word.next, chained(chained(self._hop(pc, callee, REDIRECT_LAG), through), back)
 
     # Ways.
 
