@@ -404,7 +404,7 @@ class Judge:
         table = self.setup.thread(asked.budget.thread)
         if table is None:
             return
-        stack = asked.stack = self._stacks.of(table)
+        stack = asked.stack = self.stacks.of(table)
         if stack.verdict is Verdict.HOLDS:
             is_noted = NO_OTHER_TRAP in stack.note and Assumption.NO_TRAPS not in asked.budget.assume
             asked.notes += [f"the stack: {stack.note}"] * is_noted
@@ -417,7 +417,7 @@ class Judge:
             raise Unknown(f"{note}; if it fits: assume = [{words.value!r}]")
 
     @cached_property
-    def _stacks(self) -> Stacks:
+    def stacks(self) -> Stacks:
         return Stacks(self.setup, self.image, self.program)
 
     @property

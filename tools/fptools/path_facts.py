@@ -54,7 +54,7 @@ def facts_of(search: Search, bound: int, program: Program, sources: Sources) -> 
     """The path of a search, if it costs exactly the bound."""
     cycles = search.longest.cycles
     if cycles != bound:
-        why = f"the search of this tool finds a path of {cycles:,} cycles, where {bound:,} are proved: please report it"
+        why = f"this tool's search finds {cycles:,} cycles, and {bound:,} are proved: please report it"
         return PathFacts(cycles, why_not=why)
     steps = search.longest.steps()
     lines = tuple(_lines(steps, program, sources))
@@ -139,4 +139,3 @@ def path_fields(facts: PathFacts) -> dict[str, Any]:
             for it in facts.loops
         ],
     }
-

@@ -1,8 +1,9 @@
 """A path through a section that costs the most, found without the program: a witness of its bound.
 
-An edge costs its lag, rounded up to the thread's next slot. A loop goes back as often as its table says, at most, each time
-that it is entered. The search goes through the words by address, and keeps the best path for each pair of positions of the
-frame, at the start and now. The rounds of a loop are one such table, raised to a power; so is a call."""
+An edge costs its lag, rounded up to the thread's next slot. A loop goes back as often as its table
+says, at most, each time that it is entered. The search goes through the words by address, and keeps
+the best path for each pair of positions of the frame, at the start and now. The rounds of a loop
+are one such table, raised to a power; so is a call."""
 from __future__ import annotations
 
 from collections import Counter
@@ -22,8 +23,9 @@ ELSEWHERE = -1
 
 @dataclass(frozen=True)
 class Step:
-    """An issue at a word, the word of the next issue, and the cycles between the two. Where a call has come back, a step of no
-    cycles leads from it to the word behind it; the issue is the return's, which leads elsewhere."""
+    """An issue at a word, the word of the next issue, and the cycles between the two. Where a call
+    has come back, a step of no cycles leads from it to the word behind it; the issue is the
+    return's, which leads elsewhere."""
 
     pc: int
     to: int
@@ -36,7 +38,8 @@ class Step:
 
 @dataclass(eq=False)
 class Way:
-    """A path as a tree that shares its parts: a step, or two ways, the first one before the second. Its cost is in cycles."""
+    """A path as a tree that shares its parts: a step, or two ways, the first one before the second.
+    Its cost is in cycles."""
 
     cycles: int
     step: Step | None = None
@@ -103,7 +106,8 @@ def chained(one: Table, other: Table) -> Table:
 
 @dataclass
 class Code:
-    """The words of the section, or of a function that it calls, with the loops in them by their heads."""
+    """The words of the section, or of a function that it calls, with the loops in them by their
+    heads."""
 
     section: Section
     loops: Mapping[int, LoopTable]
@@ -114,7 +118,8 @@ class Code:
 
 
 class Search:
-    """The longest path through a section and the functions that it calls, by the slots of a thread."""
+    """The longest path through a section and the functions that it calls, by the slots of a
+    thread."""
 
     def __init__(
         self, setup: Setup, thread: int, words: Mapping[int, int], parts: Sequence[Section]
@@ -130,7 +135,8 @@ class Search:
 
     @cached_property
     def longest(self) -> Way:
-        """A path that costs the most. It may end anywhere, and a step out of the section ends it."""
+        """A path that costs the most. It may end anywhere, and a step out of the section ends
+        it."""
         return max(self._ends_in(self.first).values(), key=lambda way: way.cycles)
 
     @property
@@ -157,20 +163,24 @@ class Search:
         return word.target if word.comes_back and word.target in self.routines else None
 
     def _moves(self, pc: int) -> Iterator[tuple[int, Table]]:
-        """Where a word leads, with the ways there. A call leads behind it, if its function returns."""
+        """Where a word leads, with the ways there. A call leads behind it, if its function
+        returns."""
         word = Word(pc, self.words.get(pc, 0))
         callee = self._callee(word)
         if callee is None:
-            for to, lag in edges_of(word):
-                yield to, self._hop(pc, to, lag)
+            for to, least in edges_of(word):
+                yield to, self._hop(pc, to, least)
         elif through := self._returned(callee):
             back = {(at, at): Way(0, Step(pc, word.next, 0)) for at in self.turns.own}
             yield word.next, chained(chained(self._hop(pc, callee, REDIRECT_LAG), through), back)
 
     # Ways.
 
-    def _pass(self, code: Code, low: int, high: int, around: LoopTable | None = None) -> dict[int, Table]:
-        """The ways from a word to each up to another one, with all rounds of the loops on the way but the one around them."""
+    def _pass(
+        self, code: Code, low: int, high: int, around: LoopTable | None = None
+    ) -> dict[int, Table]:
+        """The ways from a word to each up to another one, with all rounds of the loops on the way
+        but the one around them."""
         arrived: dict[int, Table] = {low: self._still}
         for pc in range(low, high + WORD_BYTES, WORD_BYTES):
             if pc not in arrived:
@@ -184,7 +194,8 @@ class Search:
         return arrived
 
     def _rounds(self, code: Code, loop: LoopTable) -> Table:
-        """The ways from a loop's head back to it, by as many whole rounds as its table has, or fewer."""
+        """The ways from a loop's head back to it, by as many whole rounds as its table has, or
+        fewer."""
         one: Table = self._still
         for pc, ways in self._pass(code, loop.head, loop.last, loop).items():
             for to, moves in self._moves(pc):
@@ -200,7 +211,8 @@ class Search:
     def _returned(self, start: int) -> Table:
         """The ways from a function's first word to behind a call of it."""
         if start not in self._through:
-            code, found = self.codes[start], Table()
+            code = self.codes[start]
+            found: Table = {}
             for pc, ways in self._pass(code, start, code.last).items():
                 if self.words.get(pc) == RETURN:
                     found = joined(found, chained(ways, self._hop(pc, ELSEWHERE, REDIRECT_LAG)))
@@ -208,9 +220,11 @@ class Search:
         return self._through[start]
 
     def _ends_in(self, start: int) -> Table:
-        """The ways from a first word to wherever a path may end: at a word, in a called function, or behind a step out."""
+        """The ways from a first word to wherever a path may end: at a word, in a called function,
+        or behind a step out."""
         if start not in self._ends:
-            code, found = self.codes[start], Table()
+            code = self.codes[start]
+            found: Table = {}
             for pc, ways in self._pass(code, start, code.last).items():
                 found = joined(found, ways)
                 callee = self._callee(Word(pc, self.words.get(pc, 0)))
@@ -231,7 +245,11 @@ def edges_of(word: Word) -> Iterator[tuple[int, int]]:
         yield word.next, lag(word, word.next, traps=False)
     if word.flow is Flow.BRANCH:
         yield word.next, PLAIN_LAG
-    if word.flow in (Flow.BRANCH, Flow.JUMP, Flow.CALL) and target is not None and target % WORD_BYTES == 0:
+    if (
+        word.flow in (Flow.BRANCH, Flow.JUMP, Flow.CALL)
+        and target is not None
+        and target % WORD_BYTES == 0
+    ):
         yield target, REDIRECT_LAG
 
 

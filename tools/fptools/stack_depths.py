@@ -20,7 +20,8 @@ from fptools.values import Value
 
 @dataclass(frozen=True)
 class Step:
-    """A function in the chain to the deepest point: the word there, and the bytes that are its own."""
+    """A function in the chain to the deepest point: the word there, and the bytes that are its
+    own."""
 
     pc: int
     bytes: int
@@ -42,7 +43,9 @@ class Functions:
         self.code, self.traps, self.name_of = code, traps, name_of
         self.done: dict[int, Function] = {}
         self._depths: dict[int, Depth] = {}
-        self._open: list[int] = []  # the functions whose calls are being looked at, the outermost first
+        self._open: list[
+            int
+        ] = []  # the functions whose calls are being looked at, the outermost first
 
     def of(self, start: int) -> Function:
         """The function at an address. Raises UnknownStack, also where its calls lead back to it."""
@@ -67,7 +70,8 @@ class Functions:
         return Reader(self.code, self.traps, self.of, function).read()
 
     def depth(self, start: int) -> Depth:
-        """How far a called function goes down below sp at its first word, with all that it calls."""
+        """How far a called function goes down below sp at its first word, with all that it
+        calls."""
         if start not in self._depths:
             self._depths[start] = self.own_depth(self.of(start))
         return self._depths[start]
@@ -93,9 +97,14 @@ class Functions:
         return best
 
     def _lowest_access(self, pc: int, known: Known, origin: tuple[int, int]) -> int:
-        """The lowest byte that a load or store touches by an address of the stack, at or below sp."""
+        """The lowest byte that a load or store touches by an address of the stack, at or below
+        sp."""
         access = access_of(self.code.word(pc), known)
-        return min(known.sp.offset, access[0].offset) if access and access[0].origin == origin else known.sp.offset
+        return (
+            min(known.sp.offset, access[0].offset)
+            if access and access[0].origin == origin
+            else known.sp.offset
+        )
 
     def called_from(self, starts: Iterable[int]) -> Iterator[Function]:
         """Some functions that are called, by their addresses, and those that they call."""

@@ -1,9 +1,11 @@
-"""What a function does with the stack pointer, read off its words: how far it goes down, and what a call of it keeps.
+"""What a function does with the stack pointer, read off its words: how far it goes down, and what a
+call of it keeps.
 
-A function is all that its first word leads to without entering calls: a last call that is a jump, or a piece of it elsewhere,
-belongs to it. Before each of its words each register is a number, a distance from a register at the first word, or unknown.
-Paths that join have to agree. A return has to find x1 and sp as the call left them; a call of a function without a return
-doesn't come back. A saved register counts where it is stored by a whole word into the frame and loaded from there. That
+A function is all that its first word leads to without entering calls: a last call that is a jump,
+or a piece of it elsewhere, belongs to it. Before each of its words each register is a number, a
+distance from a register at the first word, or unknown. Paths that join have to agree. A return has
+to find x1 and sp as the call left them; a call of a function without a return doesn't come back. A
+saved register counts where it is stored by a whole word into the frame and loaded from there. That
 stores by other pointers leave such words as they are isn't looked at."""
 from __future__ import annotations
 
@@ -56,8 +58,8 @@ class UnknownStack(Exception):
 
 @dataclass(frozen=True)
 class Known:
-    """What is known before a word: of registers, and which saved registers the frame has, by their distance from sp at the
-    first word."""
+    """What is known before a word: of registers, and which saved registers the frame has, by their
+    distance from sp at the first word."""
 
     registers: State
     saved: frozenset[tuple[int, int]] = frozenset()
@@ -69,8 +71,8 @@ class Known:
 
 @dataclass(frozen=True)
 class Traps:
-    """What the handlers of a thread do to the code that they come back to: the registers that they change, and whether they
-    go on behind the word that trapped."""
+    """What the handlers of a thread do to the code that they come back to: the registers that they
+    change, and whether they go on behind the word that trapped."""
 
     changed: frozenset[int] = frozenset()
     skips: bool = False
@@ -83,14 +85,22 @@ class Function:
     start: int
     before: dict[int, Known]
     is_handler: bool = False  # whether a trap leads to it
-    calls: dict[int, int] = field(default_factory=dict)  # the word of each call, with the function that it calls
+    calls: dict[int, int] = field(
+        default_factory=dict
+    )  # the word of each call, with the function that it calls
     returns: set[int] = field(default_factory=set)
     ends_of_trap: set[int] = field(default_factory=set)  # its MRETs
     edges: dict[int, list[int]] = field(default_factory=dict)
-    handlers: dict[int, int] = field(default_factory=dict)  # its words that write mtvec, with the address
-    tops: dict[int, int] = field(default_factory=dict)  # its words that set sp to a number, with the number
+    handlers: dict[int, int] = field(
+        default_factory=dict
+    )  # its words that write mtvec, with the address
+    tops: dict[int, int] = field(
+        default_factory=dict
+    )  # its words that set sp to a number, with the number
     kept: frozenset[int] = frozenset()  # the registers that are the same behind a call
-    above: frozenset[int] = frozenset()  # distances from sp at its first word, from 0 on, that it or a callee stores to
+    above: frozenset[
+        int
+    ] = frozenset()  # distances from sp at its first word, from 0 on, that it or a callee stores to
 
     @property
     def comes_back(self) -> bool:
@@ -150,7 +160,9 @@ class Reader:
         found = self.found
         at_returns = [found.before[pc].registers for pc in found.returns]
         found.kept = frozenset(
-            it for it in range(32) if all(state[it] == self.first.registers[it] for state in at_returns)
+            it
+            for it in range(32)
+            if all(state[it] == self.first.registers[it] for state in at_returns)
         )
         found.above = frozenset(self._stores_above())
         return found
@@ -184,7 +196,9 @@ class Reader:
         values = enumerate(known.registers)
         return replace(
             known,
-            registers=tuple(Value((pc + 2, at), 0) if at in self.traps.changed else it for at, it in values),
+            registers=tuple(
+                Value((pc + 2, at), 0) if at in self.traps.changed else it for at, it in values
+            ),
         )
 
     # Where a word goes on, with what is known there.
@@ -206,8 +220,8 @@ class Reader:
 
     @staticmethod
     def _may_trap(word: Word, known: Known) -> bool:
-        """Whether a word itself may trap. An aligned access to the function's own frame doesn't, if the stack fits, and
-        neither does a jump, whose target is looked at."""
+        """Whether a word itself may trap. An aligned access to the function's own frame doesn't, if
+        the stack fits, and neither does a jump, whose target is looked at."""
         access = access_of(word, known)
         if access and access[0].origin == STACK_POINTER:
             return access[0].offset >= 0 or access[0].offset % access[1] != 0
@@ -227,19 +241,26 @@ class Reader:
         if not called.comes_back:
             return
         values = [
-            it if at in called.kept else Value((word.pc + 1, at), 0) for at, it in enumerate(known.registers)
+            it if at in called.kept else Value((word.pc + 1, at), 0)
+            for at, it in enumerate(known.registers)
         ]
         values[RETURN_ADDRESS] = Value(None, word.next)
         sp = known.sp.offset if known.sp.origin == STACK_POINTER else 0
         hit = {sp + at for at in called.above}
-        # The address of a word that only a trap handler saves may be an argument: then the word is data.
-        data = {it.offset for at, it in enumerate(known.registers) if it.origin == STACK_POINTER and at != SP}
+        # The address of a word that only a trap handler saves may be an argument: then the word is
+        # data.
+        data = {
+            it.offset
+            for at, it in enumerate(known.registers)
+            if it.origin == STACK_POINTER and at != SP
+        }
         saved = {(at, it) for at, it in known.saved if it in SAVED or at not in data}
         saved = {(at, it) for at, it in saved if not hit & {*range(at, at + WORD_BYTES)}}
         yield word.next, Known(tuple(values), frozenset(saved))
 
     def _jump(self, word: Word, known: Known) -> Iterator[tuple[int, Known]]:
-        """Behind a return or another jump by a register: at an address that is known, or nowhere in the function."""
+        """Behind a return or another jump by a register: at an address that is known, or nowhere in
+        the function."""
         if word.bits == MRET:
             self.found.ends_of_trap.add(word.pc)
             return
@@ -249,9 +270,15 @@ class Reader:
             return
         first = self.first.registers
         if word.bits != RETURN:
-            raise UnknownStack(word.pc, "a jump by a register: where to isn't known; -fno-jump-tables for a switch")
-        if known.registers[RETURN_ADDRESS] != first[RETURN_ADDRESS] or self._is_lost(RETURN_ADDRESS):
-            raise UnknownStack(word.pc, "it isn't certain that this goes back to the call: x1 changes")
+            raise UnknownStack(
+                word.pc, "a jump by a register: where to isn't known; -fno-jump-tables for a switch"
+            )
+        if known.registers[RETURN_ADDRESS] != first[RETURN_ADDRESS] or self._is_lost(
+            RETURN_ADDRESS
+        ):
+            raise UnknownStack(
+                word.pc, "it isn't certain that this goes back to the call: x1 changes"
+            )
         if known.sp != first[SP] or self._is_lost(SP):
             raise UnknownStack(word.pc, "sp isn't as it was at the call")
         self.found.returns.add(word.pc)
@@ -278,13 +305,19 @@ class Reader:
             address, _ = access
             slot = next((it for at, it in saved if address == Value(STACK_POINTER, at)), None)
             if slot is not None:
-                registers = (*registers[: word.rd], self.first.registers[slot], *registers[word.rd + 1 :])
+                registers = (
+                    *registers[: word.rd],
+                    self.first.registers[slot],
+                    *registers[word.rd + 1 :],
+                )
         if written_by(word) == SP:
             registers = (*registers[:SP], self._new_sp(word, registers[SP]), *registers[SP + 1 :])
         low = registers[SP].offset if registers[SP].origin == STACK_POINTER else -(2**31)
         return Known(registers, frozenset((at, it) for at, it in saved if at >= low))
 
-    def _stored(self, word: Word, known: Known, address: Value, size: int) -> frozenset[tuple[int, int]]:
+    def _stored(
+        self, word: Word, known: Known, address: Value, size: int
+    ) -> frozenset[tuple[int, int]]:
         """The saved registers of the frame behind a store."""
         if address.origin != STACK_POINTER:
             return known.saved
@@ -297,9 +330,14 @@ class Reader:
 
     @staticmethod
     def _sum(word: Word, state: State) -> State:
-        """The registers behind a word; also where it adds or subtracts a known number in a register, as for large frames."""
+        """The registers behind a word; also where it adds or subtracts a known number in a
+        register, as for large frames."""
         new = after(word, state)
-        is_sum = word.opcode == OPCODE_REGISTERS and word.funct3 == 0 and word.field(25, 7) in (0, FUNCT7_SUB)
+        is_sum = (
+            word.opcode == OPCODE_REGISTERS
+            and word.funct3 == 0
+            and word.field(25, 7) in (0, FUNCT7_SUB)
+        )
         if not is_sum or not word.rd:
             return new
         one, two, sign = state[word.rs1], state[word.rs2], -1 if word.field(25, 7) else 1
@@ -311,9 +349,10 @@ class Reader:
         return (*new[: word.rd], value, *new[word.rd + 1 :])
 
     def _new_sp(self, word: Word, value: Value) -> Value:
-        """The stack pointer behind a word that writes it: a number is a new top, but between the two words of `la`."""
+        """The stack pointer behind a word that writes it: a number is a new top, but between the
+        two words of `la`."""
         if value.origin not in (STACK_POINTER, TOP, None):
-            why = "sp gets a value that isn't known: alloca, an array of variable length, or another stack"
+            why = "sp gets a value that isn't known: alloca, or an array of variable length"
             raise UnknownStack(word.pc, why)
         if value.origin == STACK_POINTER and value.offset > 0:
             raise UnknownStack(word.pc, "sp is above where it was at the call")
@@ -333,11 +372,14 @@ class Reader:
         self.found.handlers[word.pc] = number & ~3
 
     def _stores_above(self) -> Iterator[int]:
-        """The distances from sp at the first word, from 0 on, of bytes that it or a callee stores to."""
+        """The distances from sp at the first word, from 0 on, of bytes that it or a callee stores
+        to."""
         for pc, known in self.found.before.items():
             access, word = access_of(self.code.word(pc), known), self.code.word(pc)
             if access and word.opcode == OPCODE_STORE and access[0].origin == STACK_POINTER:
-                yield from (at for at in range(access[0].offset, access[0].offset + access[1]) if at >= 0)
+                yield from (
+                    at for at in range(access[0].offset, access[0].offset + access[1]) if at >= 0
+                )
             if pc in self.found.calls and known.sp.origin == STACK_POINTER:
                 above = self.called(self.found.calls[pc]).above
                 yield from (at + known.sp.offset for at in above if at + known.sp.offset >= 0)

@@ -35,7 +35,8 @@ class Room:
 
 
 def data_of(program: Program, image: Mapping[int, int]) -> list[Data]:
-    """The data of an executable, by its sections; without one the words of the image that aren't 0."""
+    """The data of an executable, by its sections; without one the words of the image that aren't
+    0."""
     if program.path is None:
         words = (at for at, bits in sorted(image.items()) if bits and is_data(at))
         return [Data(f"the word at {at:#x}", at, at + 4) for at in words]
@@ -58,7 +59,9 @@ def room_of(setup: Setup, thread: int, top: int, data: Iterable[Data]) -> Room:
     at = (top - 1 - DATA_START) // size
     owner = owners[at] if 0 <= at < REGIONS else None
     if owner == "shared":
-        raise UnknownStack(top, f"the stack begins at {top:#x}, in a shared region: other threads may store there")
+        raise UnknownStack(
+            top, f"the stack begins at {top:#x}, in a shared region: other threads may store there"
+        )
     if owner != own:
         whose = f"the region is {owner}'s" if owner else "which is no address of data"
         return Room(top, 0, f"{top:#x}: each store traps, {whose}")

@@ -1,4 +1,5 @@
-"""How deep the stack of a thread gets, by all that it runs from its entry on, with its trap handlers."""
+"""How deep the stack of a thread gets, by all that it runs from its entry on, with its trap
+handlers."""
 from __future__ import annotations
 
 from dataclasses import dataclass, replace
@@ -32,7 +33,9 @@ class Deepest:
 
     top: int
     depth: Depth
-    uses: tuple[tuple[int, int, int], ...]  # words that use a fixed address of data: word, address, bytes
+    uses: tuple[
+        tuple[int, int, int], ...
+    ]  # words that use a fixed address of data: word, address, bytes
     notes: tuple[str, ...]
 
 
@@ -50,11 +53,10 @@ def deepest_of(
 
 
 class Looked:
-    """A thread's code, where its handlers do to the code that they come back to what `functions.traps` has."""
+    """A thread's code, where its handlers do to the code that they come back to what
+    `functions.traps` has."""
 
-    def __init__(
-        self, setup: Setup, code: Code, table: ThreadTable, functions: Functions
-    ) -> None:
+    def __init__(self, setup: Setup, code: Code, table: ThreadTable, functions: Functions) -> None:
         self.setup, self.code, self.table, self.functions = setup, code, table, functions
         self.entry = functions.entry(table.entry)
         self.main = [self.entry, *functions.called_from(self.entry.calls.values())]
@@ -110,18 +112,26 @@ class Looked:
                     raise UnknownStack(pc, "sp isn't as it was at the trap")
                 changed |= {it for it in range(32) if known.registers[it] != first.registers[it]}
         comes_back = any(it.ends_of_trap for it in self.handlers.values())
-        return Traps(frozenset(changed) | self.functions.traps.changed, comes_back and self._skips())
+        return Traps(
+            frozenset(changed) | self.functions.traps.changed, comes_back and self._skips()
+        )
 
     def _look_at_ends(self) -> None:
         """MRET is in a trap handler itself, and `ret` isn't."""
         for function in self.all:
             for pc in function.ends_of_trap if not function.is_handler else ():
-                raise UnknownStack(pc, "MRET outside of a trap handler, or in a function that one calls")
+                raise UnknownStack(
+                    pc, "MRET outside of a trap handler, or in a function that one calls"
+                )
         for start, handler in self.handlers.items():
             for pc in handler.returns:
-                raise UnknownStack(pc, "a trap handler returns by `ret`: x1 is that of the code that trapped")
+                raise UnknownStack(
+                    pc, "a trap handler returns by `ret`: x1 is that of the code that trapped"
+                )
             if handler.above and self._is_relative(handler):
-                raise UnknownStack(start, "a trap handler stores above its sp: into the frame that trapped")
+                raise UnknownStack(
+                    start, "a trap handler stores above its sp: into the frame that trapped"
+                )
 
     @staticmethod
     def _is_relative(function: Function) -> bool:
@@ -133,7 +143,9 @@ class Looked:
         for handler in self.handlers.values():
             for word in self._words(self._with_callees(handler)):
                 if word.writes_mepc and not self.code.skips_a_word(word):
-                    raise UnknownStack(word.pc, "a trap handler comes back to an address that isn't known")
+                    raise UnknownStack(
+                        word.pc, "a trap handler comes back to an address that isn't known"
+                    )
                 skips |= word.writes_mepc
         if skips and self.arms:
             why = "a moment may expire at any word, and a trap handler skips the word"
@@ -147,14 +159,19 @@ class Looked:
         owners = (f"T{self.table.id}", "readonly")
         for word in self._words(self.all) if self.table.confined else ():
             if self.setup.region("i_regions", word.pc) not in owners:
-                raise UnknownStack(word.pc, "the thread can't fetch here, and a trap handler skips the word")
+                raise UnknownStack(
+                    word.pc, "the thread can't fetch here, and a trap handler skips the word"
+                )
 
     # Depths.
 
     def deepest(self) -> Deepest:
         top, own = self._main_depth()
         handlers, notes = self._on_top()
-        steps = (*own.steps, *(replace(step, is_trap=not at) for it in handlers for at, step in enumerate(it.steps)))
+        steps = (
+            *own.steps,
+            *(replace(step, is_trap=not at) for it in handlers for at, step in enumerate(it.steps)),
+        )
         depth = Depth(own.bytes + sum(it.bytes for it in handlers), steps)
         if not self.handlers:
             notes.append(WITHOUT_TRAPS)
@@ -165,7 +182,9 @@ class Looked:
         tops = {number: pc for it in self.all for pc, number in sorted(it.tops.items())}
         if len(tops) > 1:
             numbers = " and ".join(f"{it % 2**32:#x}" for it in sorted(tops))
-            raise UnknownStack(max(tops.values()), f"sp is set to {numbers}: which is the stack isn't known")
+            raise UnknownStack(
+                max(tops.values()), f"sp is set to {numbers}: which is the stack isn't known"
+            )
         for pc, called in self.entry.calls.items():
             if self.entry.before[pc].sp.origin is None and self.functions.depth(called).bytes:
                 raise UnknownStack(pc, "a call before sp is set to a number")
@@ -179,15 +198,17 @@ class Looked:
     def _look_below(self, top: int) -> None:
         """sp is never above its top, and a multiple of 4."""
         if top % 4:
-            raise UnknownStack(self.table.entry, f"sp is set to {top % 2**32:#x}, which is no multiple of 4")
+            raise UnknownStack(
+                self.table.entry, f"sp is set to {top % 2**32:#x}, which is no multiple of 4"
+            )
         for it in self.all:
             for pc, known in it.before.items():
                 if known.sp.origin == TOP and known.sp.offset > top:
                     raise UnknownStack(pc, f"sp is above {top % 2**32:#x}, to which it was set")
 
     def _on_top(self) -> tuple[list[Depth], list[str]]:
-        """The handlers on top of the deepest point. A handler that doesn't come back may be followed by another one, if a
-        moment is armed."""
+        """The handlers on top of the deepest point. A handler that doesn't come back may be
+        followed by another one, if a moment is armed."""
         depths = {start: self.functions.own_depth(it) for start, it in self.handlers.items()}
         deep = {start: it for start, it in depths.items() if it.bytes}
         if not deep:
@@ -201,7 +222,8 @@ class Looked:
         return [under, most] if under else [most], [note]
 
     def _look_at_handler(self, handler: Function) -> None:
-        """A handler with a stack doesn't trap by intent, and doesn't go on in code that may trap."""
+        """A handler with a stack doesn't trap by intent, and doesn't go on in code that may
+        trap."""
         own = [pc for pc in handler.before if handler.is_relative(pc)]
         called = self.functions.called_from(
             at for pc, at in handler.calls.items() if handler.is_relative(pc)
@@ -213,7 +235,10 @@ class Looked:
                 raise UnknownStack(word.pc, f"a trap in the trap handler {name}")
         asks = next((it for it in self._words(self.all) if it.bits in (ECALL, EBREAK)), None)
         if asks and self.arms and handler.ends_of_trap:
-            raise UnknownStack(asks.pc, f"a moment may expire while the trap handler {name} runs: it would lose mepc")
+            raise UnknownStack(
+                asks.pc,
+                f"a moment may expire while the trap handler {name} runs: it would lose mepc",
+            )
         self._look_at_overlap(handler, {pc for it in self.main for pc in it.before} & {*own})
         self._look_at_halves()
 
@@ -228,7 +253,7 @@ class Looked:
             ahead += handler.edges.get(pc, [])
             word = self.code.word(pc)
             if pc in handler.calls or word.may_trap or word.traps_by_intent:
-                why = "the trap handler {} goes on in code that may trap, and doesn't give its stack back"
+                why = "the trap handler {} goes on in code that may trap, and keeps its stack"
                 raise UnknownStack(min(shared), why.format(self.functions.name_of(handler.start)))
 
     def _look_at_halves(self) -> None:
@@ -237,7 +262,9 @@ class Looked:
         again = reach(self.code, [*behind, *self.handlers])
         for word in self._words(self.all) if self.arms else ():
             if is_half(self.code, word) and again.has(word.pc):
-                raise UnknownStack(word.pc, "sp is set again in two words, between which a moment may expire")
+                raise UnknownStack(
+                    word.pc, "sp is set again in two words, between which a moment may expire"
+                )
 
     def _uses(self) -> Iterator[tuple[int, int, int]]:
         """The loads and stores at a fixed address of data."""

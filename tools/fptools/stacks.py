@@ -1,12 +1,13 @@
-"""Whether the stack of each thread fits: the deepest one by the calls of its code, with trap handlers on top, and the room
-that the data leave.
+"""Whether the stack of each thread fits: the deepest one by the calls of its code, with trap
+handlers on top, and the room that the data leave.
 
     from fptools.stacks import Stacks
 
     for stack in Stacks(setup, image, program).all():
         print(stack)
 
-A trap may come at any word, so the deepest handler is added to the deepest point. docs/C.md has what this assumes."""
+A trap may come at any word, so the deepest handler is added to the deepest point. docs/C.md has
+what this assumes."""
 from __future__ import annotations
 
 from dataclasses import dataclass
@@ -39,7 +40,7 @@ class Frame:
     """A function in the chain to the deepest point, and its own bytes."""
 
     name: str
-    line: str  # of the word that is deepest in it, or calls the next one; empty where it isn't known
+    line: str  # of its deepest word, or of its call of the next function; empty if it isn't known
     bytes: int
     is_trap: bool
 
@@ -78,7 +79,8 @@ class Stack:
 
 
 class Stacks:
-    """The stacks of the threads of a setup, by the words of its image. An executable gives names, lines and data."""
+    """The stacks of the threads of a setup, by the words of its image. An executable gives names,
+    lines and data."""
 
     def __init__(self, setup: Setup, image: Mapping[int, int], program: Program) -> None:
         self.setup, self.image, self.program = setup, image, program
@@ -104,8 +106,8 @@ class Stacks:
             return Stack(table.id, Verdict.UNKNOWN, f"{self.where(why.pc)}: {why}")
 
     def _is_used(self, table: ThreadTable) -> bool:
-        """Whether a word that the thread may issue uses sp as an address, or sets it to one of data. In assembler x2 may be a
-        register like others."""
+        """Whether a word that the thread may issue uses sp as an address, or sets it to one of
+        data. In assembler x2 may be a register like others."""
         words = ThreadCode(self.code, table.entry).may_issue
         return any(self._uses_sp(it) for it in words if it.is_code)
 
@@ -116,22 +118,29 @@ class Stacks:
         if is_number and word.rd == SP:
             return any(is_data(it) for it in self._numbers(word))
         has_two = word.opcode in (OPCODE_STORE, OPCODE_REGISTERS)
-        reads = not is_number and word.opcode != OPCODE_JAL and (word.rs1 == SP or has_two and word.rs2 == SP)
+        reads = (
+            not is_number
+            and word.opcode != OPCODE_JAL
+            and (word.rs1 == SP or has_two and word.rs2 == SP)
+        )
         return reads and (word.opcode == OPCODE_STORE or word.rd != SP)
 
     def _numbers(self, word: Word) -> tuple[int, ...]:
-        """The number that LUI or AUIPC gives sp, alone and with the next word, if that adds to it."""
+        """The number that LUI or AUIPC gives sp, alone and with the next word, if that adds to
+        it."""
         number = (word.field(12, 20) << 12) + (word.pc if word.opcode == OPCODE_AUIPC else 0)
         then = self.code.word(word.next)
-        return (number % 2**32, (number + then.immediate) % 2**32) if is_half(self.code, word) else (number % 2**32,)
+        return (
+            (number % 2**32, (number + then.immediate) % 2**32)
+            if is_half(self.code, word)
+            else (number % 2**32,)
+        )
 
     def _fitting(self, table: ThreadTable, found: Deepest) -> Stack:
         """A stack of known depth, in its room."""
         if not found.depth.bytes:
             return Stack(table.id, Verdict.HOLDS, "no stack: sp is never lowered", 0)
-        used = [
-            Data(f"what {self.where(pc)} uses", at, at + size) for pc, at, size in found.uses
-        ]
+        used = [Data(f"what {self.where(pc)} uses", at, at + size) for pc, at, size in found.uses]
         room = room_of(self.setup, table.id, found.top, [*self._data, *used])
         is_over = found.depth.bytes > room.bytes
         frames = self._frames(found.depth)

@@ -1,4 +1,5 @@
-"""Programs of data/stack with their depth: by fp_stack, by a run, and by the compiler's -fstack-usage."""
+"""Programs of data/stack with their depth: by fp_stack, by a run, and by the compiler's
+-fstack-usage."""
 from __future__ import annotations
 
 import subprocess
@@ -49,11 +50,15 @@ class Built:
     folder: Path
     elf: Path
     setup: Path
-    usage: dict[str, int]  # bytes of functions by -fstack-usage, those whose frames have a fixed size
+    usage: dict[
+        str, int
+    ]  # bytes of functions by -fstack-usage, those whose frames have a fixed size
 
     def stack(self) -> Stack:
         """The stack of thread 0."""
-        (found,) = Stacks(read_setup(self.setup), read_image(self.setup.with_suffix(".fpx")), Program(self.elf)).all()
+        (found,) = Stacks(
+            read_setup(self.setup), read_image(self.setup.with_suffix(".fpx")), Program(self.elf)
+        ).all()
         return found
 
     def lowest(self, flexpret: str, cycles: int = 30_000) -> int:
@@ -73,14 +78,21 @@ class Built:
 def built(
     flexpret: str, folder: Path, name: str, options: str, compiler: str = "gcc", laid: bool = False
 ) -> Built:
-    """Compiles the sources of a name, in C or assembler, and links them with the start of thread 0."""
+    """Compiles the sources of a name, in C or assembler, and links them with the start of thread
+    0."""
     (folder / "start.o").write_bytes(start_of(folder, compiler))
     objects = [folder / "start.o"]
     for source in sorted(STACK.glob(f"{name}.[cs]")):
         objects.append(compiled(folder, source, f"{options} -I{C}", compiler, laid))
     elf, image, setup = folder / "own.elf", folder / "own.fpx", folder / "own.toml"
-    call(f"{LINKERS[compiler]} -n -e 0 -T {C}/flexpret.ld -o {elf} {' '.join(it.name for it in objects)}", folder)
-    image.write_bytes(subprocess.run([flexpret, "elf", str(elf)], capture_output=True, check=True).stdout)
+    named = " ".join(it.name for it in objects)
+    call(
+        f"{LINKERS[compiler]} -n -e 0 -T {C}/flexpret.ld -o {elf} {named}",
+        folder,
+    )
+    image.write_bytes(
+        subprocess.run([flexpret, "elf", str(elf)], capture_output=True, check=True).stdout
+    )
     setup.write_text(SETUP.format(folder=folder))
     return Built(folder, elf, setup, usage_of(folder))
 

@@ -18,14 +18,28 @@ from fptools.setup import LoopTable, read_setup
 from fptools.sources import Sources
 from modelled import labels_of
 
-FRAMES = ("T0 D D D D D D D", "T0 S S S D D D D", "T0 S T0 S S D D D", "T0 T0 S T0 T0 S S S", "S T0 T0 T0 S S T0 S")
-PLAIN = ("addi a0, a0, 1", "lw a1, 0(s0)", "mul a2, a0, a1", "sw a2, 4(s0)", "csrr a3, mcause", "div a4, a0, a1")
+FRAMES = (
+    "T0 D D D D D D D",
+    "T0 S S S D D D D",
+    "T0 S T0 S S D D D",
+    "T0 T0 S T0 T0 S S S",
+    "S T0 T0 T0 S S T0 S",
+)
+PLAIN = (
+    "addi a0, a0, 1",
+    "lw a1, 0(s0)",
+    "mul a2, a0, a1",
+    "sw a2, 4(s0)",
+    "csrr a3, mcause",
+    "div a4, a0, a1",
+)
 MOST_DEPTH = 3
 MOST_BACKS = 5
 
 
 class Made:
-    """A random program: a section from `begin` to `done` with loops, branches and calls of two functions."""
+    """A random program: a section from `begin` to `done` with loops, branches and calls of two
+    functions."""
 
     def __init__(self, seed: int) -> None:
         self.random = random.Random(seed)
@@ -85,7 +99,9 @@ def set_up(flexpret: str, folder: Path, made: Made, frame: str) -> Path:
     """The setup of a random program, whose image is beside it."""
     source, image, setup = folder / "own.s", folder / "own.fpx", folder / "own.toml"
     source.write_text(made.source)
-    image.write_bytes(subprocess.run([flexpret, "asm", source], capture_output=True, check=True).stdout)
+    image.write_bytes(
+        subprocess.run([flexpret, "asm", source], capture_output=True, check=True).stdout
+    )
     at = labels_of(made.source)
     tables = "".join(
         f"[[loop]]\nhead = {at[head]}\nlast = {at[last]}\nbound = {bound}\n"
@@ -122,7 +138,8 @@ def test_a_random_program_has_a_path_of_its_bound(flexpret: str, tmp_path: Path,
 
 
 def look_at_steps(search: Search) -> None:
-    """The steps are of one path: as many lead to a word as from it, but at its ends; loops keep their tables."""
+    """The steps are of one path: as many lead to a word as from it, but at its ends; loops keep
+    their tables."""
     steps = search.longest.steps()
     assert sum(step.cycles * number for step, number in steps.items()) == search.longest.cycles
     came, went = Counter[int](), Counter[int]()
@@ -141,7 +158,9 @@ def look_at_steps(search: Search) -> None:
 
 def look_at_loop(search: Search, loop: LoopTable, steps: Counter[Step]) -> None:
     """A loop goes back as often as its table says, at most, each time that the path enters it."""
-    backs = sum(n for it, n in steps.items() if it.to == loop.head and loop.head <= it.pc <= loop.last)
+    backs = sum(
+        n for it, n in steps.items() if it.to == loop.head and loop.head <= it.pc <= loop.last
+    )
     all_of = sum(n for it, n in steps.items() if it.to == loop.head) + (loop.head == search.first)
     assert backs <= (loop.bound or 0) * (all_of - backs)
 
@@ -151,7 +170,7 @@ def test_a_path_that_costs_otherwise_is_not_shown(flexpret: str, tmp_path: Path)
     search = search_of(set_up(flexpret, tmp_path, made, FRAMES[0]), labels_of(made.source))
     facts = facts_of(search, search.longest.cycles + 1, Program(None), Sources(None))
     (line,) = path_text(facts)
-    assert "path: the search of this tool finds a path of" in line and not facts.lines
+    assert "path: this tool's search finds" in line and not facts.lines
 
 
 def test_the_path_of_a_shipped_example(asking: Tool) -> None:
@@ -166,4 +185,7 @@ def test_the_path_of_a_shipped_example(asking: Tool) -> None:
     path = result["path"]
     assert path["cycles"] == result["bound"] == sum(it["cycles"] for it in path["lines"])
     assert path["loops"] == [{"at": "0xf0 step_begin+0x3c", "head": 0xF0, "entries": 1, "backs": 7}]
-    assert json.loads(asking(*words, *section[:-1], *assumed, "--json").stdout)["results"][0]["path"] is None
+    assert (
+        json.loads(asking(*words, *section[:-1], *assumed, "--json").stdout)["results"][0]["path"]
+        is None
+    )

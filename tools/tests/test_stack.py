@@ -1,4 +1,5 @@
-"""How deep stacks get: no run goes deeper, the compiler's frames are the same, and what isn't known is unknown."""
+"""How deep stacks get: no run goes deeper, the compiler's frames are the same, and what isn't known
+is unknown."""
 from __future__ import annotations
 
 import json
@@ -17,7 +18,7 @@ NOT_TAKEN = ("untaken",)
 UNKNOWN_C = {
     "recursion": "recursion: even > odd > even",
     "pointer": "a call through a pointer: what it calls isn't known",
-    "variable": "sp gets a value that isn't known: alloca, an array of variable length, or another stack",
+    "variable": "sp gets a value that isn't known: alloca, or an array of variable length",
     "alloca": "sp isn't the same on each path to here: it grows in a loop, or by alloca",
 }
 UNKNOWN_ASSEMBLER = {
@@ -25,13 +26,13 @@ UNKNOWN_ASSEMBLER = {
     "prologue_again": "main0 (t0_prologue_again.s:4): sp isn't the same on each path to here",
     "leaking_tail": "g+0xc (t0_leaking_tail.s:13): sp isn't as it was at the call",
     "falls_through": "g+0x8 (t0_falls_through.s:10): sp isn't as it was at the call",
-    "returns_elsewhere": "f+0x8 (t0_returns_elsewhere.s:10): it isn't certain that this goes back to the call",
+    "returns_elsewhere": "f+0x8 (t0_returns_elsewhere.s:10): it isn't certain that this goes back",
     "lost_s0": "main0+0xc (t0_lost_s0.s:7): sp gets a value that isn't known",
     "overwrites": "main0+0xc (t0_overwrites.s:7): sp gets a value that isn't known",
-    "below_sp": "f+0xc (t0_below_sp.s:10): it isn't certain that this goes back to the call: x1 changes",
+    "below_sp": "f+0xc (t0_below_sp.s:10): it isn't certain that this goes back to the call",
     "changes_s0": "it sets mtvec to an address that isn't known",
     "skips_any": "a moment may expire at any word, and a trap handler skips the word",
-    "resumes": "the trap handler handler goes on in code that may trap, and doesn't give its stack back",
+    "resumes": "the trap handler handler goes on in code that may trap, and keeps its stack",
     "two_stacks": "main0 (t0_two_stacks.s:4): sp isn't the same on each path to here",
     "asks_in_handler": "handler+0x8 (t0_asks_in_handler.s:12): a trap in the trap handler handler",
     "returns_from_trap": "a trap handler returns by `ret`: x1 is that of the code that trapped",
@@ -46,14 +47,19 @@ HOLDS_ASSEMBLER = {
 }
 COMPILED = [
     *((name, "gcc", level, False) for name in KNOWN for level in LEVELS),
-    *((name, "gcc", level, True) for name in ("handler", "tail") for level in ("-O1", "-O2", "-Os")),
+    *(
+        (name, "gcc", level, True)
+        for name in ("handler", "tail")
+        for level in ("-O1", "-O2", "-Os")
+    ),
     *((name, "clang", level, False) for name in KNOWN for level in LEVELS),
 ]
 """Programs with a compiler, a level, and whether fp_layout orders their blocks."""
 
 
 def agrees(made: Built, stack: Stack, lowest: int, is_equal: bool) -> None:
-    """A depth is that of a run, or above where a run doesn't take the path; frames are those of the compiler."""
+    """A depth is that of a run, or above where a run doesn't take the path; frames are those of the
+    compiler."""
     assert stack.bytes is not None and lowest <= stack.bytes
     assert not is_equal or lowest == stack.bytes, stack.text
     assert sum(frame.bytes for frame in stack.frames) == stack.bytes
@@ -104,7 +110,16 @@ def test_data_at_a_fixed_address(flexpret: str, tmp_path: Path) -> None:
 
 def budget(asking: Tool, made: Built, *words: str) -> tuple[int, str, str]:
     """The status of fp_budget for the step of over.c, its first line, and its standard error."""
-    asked = ("--setup", made.setup, "--thread", "0", "--from-label", "step_begin", "--to-label", "step_end")
+    asked = (
+        "--setup",
+        made.setup,
+        "--thread",
+        "0",
+        "--from-label",
+        "step_begin",
+        "--to-label",
+        "step_end",
+    )
     ran = asking("fp_budget", made.elf, *asked, *words)
     return ran.returncode, ran.stdout.splitlines()[0], ran.stderr
 
@@ -115,7 +130,10 @@ def test_a_stack_that_does_not_fit_makes_a_budget_unknown(
     made = built(flexpret, tmp_path, "over", "-O2", laid=True)
     why = "the stack may not fit: 896 of 844 bytes: main0 (16) > large (880); below is .bss0"
     status, line, _ = budget(asking, made)
-    assert (status, line.startswith(f"UNKNOWN  T0 step_begin to step_end: {why}; if it fits:")) == (2, True)
+    assert (status, line.startswith(f"UNKNOWN  T0 step_begin to step_end: {why}; if it fits:")) == (
+        2,
+        True,
+    )
     status, line, told = budget(asking, made, "--assume", "stack fits")
     assert (status, line) == (0, "bound    T0 step_begin to step_end: 4 cycles (40 ns)")
     assert f"assumes stack fits: {why}" in told
@@ -125,9 +143,16 @@ def test_a_stack_in_the_region_of_another_thread(flexpret: str, tmp_path: Path) 
     made = built(flexpret, tmp_path, "nest", "-O2")
     made.setup.write_text(made.setup.read_text().replace('d_regions = ["T0"', 'd_regions = ["T1"'))
     stack = made.stack()
-    text = "144 of 0 bytes: main0 (16) > outer (16) > middle (64) > inner (48); below is 0x20000800: "
-    assert (stack.verdict, stack.text) == (Verdict.OVER, text + "each store traps, the region is T1's")
-    made.setup.write_text(made.setup.read_text().replace('d_regions = ["T1"', 'd_regions = ["shared"'))
+    text = (
+        "144 of 0 bytes: main0 (16) > outer (16) > middle (64) > inner (48); below is 0x20000800: "
+    )
+    assert (stack.verdict, stack.text) == (
+        Verdict.OVER,
+        text + "each store traps, the region is T1's",
+    )
+    made.setup.write_text(
+        made.setup.read_text().replace('d_regions = ["T1"', 'd_regions = ["shared"')
+    )
     stack = made.stack()
     assert stack.verdict is Verdict.UNKNOWN
     assert "in a shared region: other threads may store there" in stack.text
@@ -149,8 +174,14 @@ def test_bad_input(asking: Tool, tmp_path: Path) -> None:
     for words, why in (
         (("examples/c/pid.elf", "--setup", tmp_path / "no.toml"), "no.toml"),
         ((tmp_path / "no.elf", *setup), "no.elf"),
-        (("tools/tests/data/calls.elf", *setup), "the image isn't made of tools/tests/data/calls.elf"),
-        (("examples/c/pid.elf", "--setup", "examples/sum.toml", "--thread", "5"), "no [[thread]] table of thread 5"),
+        (
+            ("tools/tests/data/calls.elf", *setup),
+            "the image isn't made of tools/tests/data/calls.elf",
+        ),
+        (
+            ("examples/c/pid.elf", "--setup", "examples/sum.toml", "--thread", "5"),
+            "no [[thread]] table of thread 5",
+        ),
     ):
         ran = asking("fp_stack", *words)
         assert (ran.returncode, ran.stdout) == (2, "")

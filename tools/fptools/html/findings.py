@@ -19,6 +19,7 @@ from fptools.program import Flexpret
 from fptools.setup import Setup
 from fptools.shown import Columns
 from fptools.sources import Sources
+from fptools.stacks import Stack
 from fptools.visits import Executions
 
 NAME = "fp_report"
@@ -68,6 +69,7 @@ class Findings:
     found: list[Finding]
     observations: list[Observation]
     timeline: Timeline
+    stacks: list[Stack]
 
 
 @dataclass
@@ -91,7 +93,9 @@ class Question:
 
     def findings(self, budgets: Sequence[Budget], files: Sequence[tuple[str, Path]]) -> Findings:
         """Gets the bounds, runs the threads, and reads their longest executions."""
-        judge = Judge(self.flexpret, self.setup, self.image, self.program, self.sources)
+        judge = Judge(
+            self.flexpret, self.setup, self.image, self.program, self.sources, has_paths=True
+        )
         runs = Runs(self.flexpret, self.setup, self.image, self.program, self.cycles, name=NAME)
         compared = runs.observed([judge.judge(it) for it in budgets])
         seen = observations_of(compared)
@@ -106,7 +110,15 @@ class Question:
         timeline = painter.painted(self.window or chosen_window(found, self.cycles), executions)
         inputs = [Input(what, str(path), digest_of(path)) for what, path in files]
         return Findings(
-            self.setup, self.image, self.program, self.cycles, inputs, found, seen, timeline
+            self.setup,
+            self.image,
+            self.program,
+            self.cycles,
+            inputs,
+            found,
+            seen,
+            timeline,
+            judge.stacks.all(),
         )
 
     def _located(self, compared: Sequence[Compared]) -> list[Finding]:
