@@ -257,14 +257,18 @@ class Looked:
                 raise UnknownStack(min(shared), why.format(self.functions.name_of(handler.start)))
 
     def _look_at_halves(self) -> None:
-        """No moment expires between the two words that set sp."""
+        """No moment expires before sp is set, or between the two words that set it."""
+        if self.arms is None:
+            return
+        for pc, known in self.entry.before.items():
+            if known.sp.origin is None and (self.code.word(pc).arms or pc in self.entry.calls):
+                raise UnknownStack(pc, "a moment may expire before sp is set to a number")
         behind = [pc + 4 for it in self.all for pc in it.tops]
         again = reach(self.code, [*behind, *self.handlers])
-        for word in self._words(self.all) if self.arms else ():
+        for word in self._words(self.all):
             if is_half(self.code, word) and again.has(word.pc):
-                raise UnknownStack(
-                    word.pc, "sp is set again in two words, between which a moment may expire"
-                )
+                why = "sp is set again in two words, between which a moment may expire"
+                raise UnknownStack(word.pc, why)
 
     def _uses(self) -> Iterator[tuple[int, int, int]]:
         """The loads and stores at a fixed address of data."""

@@ -148,8 +148,20 @@ class Stacks:
         text += f"; below is {room.below}" if is_over else ""
         verdict = Verdict.OVER if is_over else Verdict.HOLDS
         return Stack(
-            table.id, verdict, text, found.depth.bytes, room.bytes, found.top, frames, found.notes
+            *(table.id, verdict, text, found.depth.bytes, room.bytes, found.top, frames),
+            notes=(*found.notes, *self._configured),
         )
+
+    @cached_property
+    def _configured(self) -> list[str]:
+        """That threads with a permit write slots, modes or regions."""
+        permits = [it for it in self.setup.threads if it.permit]
+        writes = [(it, ThreadCode(self.code, it.entry).configuration_write) for it in permits]
+        return [
+            f"assumes that regions stay as the setup has them: T{it.id} writes slots, modes or regions"
+            for it, write in writes
+            if write is not None
+        ]
 
     @cached_property
     def _data(self) -> list[Data]:

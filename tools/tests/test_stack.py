@@ -8,7 +8,11 @@ from pathlib import Path
 import pytest
 from conftest import Tool
 from fptools.budget_files import Verdict
-from fptools.stacks import Stack
+from fptools.elf import Program
+from fptools.image import read_image, write_image
+from fptools.setup import read_setup
+from fptools.stacks import Stack, Stacks
+from modelled import assembled, setup_text
 from stack_programs import LEVELS, Built, built
 
 KNOWN = ("nest", "saves", "handler", "arms_again", "over", "tail", "stops", "stops_last", "untaken")
@@ -186,3 +190,47 @@ def test_bad_input(asking: Tool, tmp_path: Path) -> None:
         ran = asking("fp_stack", *words)
         assert (ran.returncode, ran.stdout) == (2, "")
         assert why in ran.stderr and ran.stderr.count("\n") == 1
+
+
+def stack_of(folder: Path, source: str) -> Stack:
+    """The stack of thread 0 for a source of the assembler, which has no executable."""
+    setup, image = folder / "own.toml", folder / "own.fpx"
+    image.write_bytes(assembled(source).written())
+    setup.write_text(setup_text(str(image)))
+    return Stacks(read_setup(setup), read_image(image), Program(None)).all()[0]
+
+
+STOPS = "handler: addi sp, sp, -16\nsw ra, 0(sp)\nstays: j stays\n"
+SETS_MTVEC = "li x5, 0x100\ncsrw mtvec, x5\n"
+
+
+def test_a_moment_that_may_expire_before_sp_is_set(tmp_path: Path) -> None:
+    source = f"{SETS_MTVEC}{{}}li sp, 0x20000800\n{{}}done: j done\n.org 0x100\n{STOPS}"
+    stack = stack_of(tmp_path, source.format("ee x0, x0\n", ""))
+    assert "a moment may expire before sp is set to a number" in stack.text
+    stack = stack_of(tmp_path, source.format("", "ee x0, x0\n"))
+    assert (stack.verdict, stack.bytes) == (Verdict.HOLDS, 32)
+
+
+def test_sp_as_another_register(tmp_path: Path) -> None:
+    """In assembler x2 may be the port's address, or a counter; as an address of data it is a stack."""
+    loop = "loop: addi x2, x2, -1\nbnez x2, loop\ndone: j done\n"
+    assert stack_of(tmp_path, f"lui x2, 0x40000\n{loop}").verdict is Verdict.HOLDS
+    assert stack_of(tmp_path, f"lui x2, 0x20000\n{loop}").verdict is Verdict.UNKNOWN
+    assert stack_of(tmp_path, f"lw x2, 0(x0)\nsw x5, 0(x2)\n{loop}").verdict is Verdict.UNKNOWN
+    assert (
+        stack_of(tmp_path, f"lui x8, 0x20001\nmv x2, x8\nmv x9, x2\n{loop}").verdict
+        is Verdict.UNKNOWN
+    )
+
+
+def test_regions_that_a_thread_writes(flexpret: str, tmp_path: Path) -> None:
+    made = built(flexpret, tmp_path, "nest", "-O2")
+    image = made.setup.with_suffix(".fpx")
+    words = read_image(image) | {0x1000: 0x7C229073, 0x1004: 0x0000006F}  # csrw dregions, t0; j .
+    image.write_bytes(write_image(words))
+    soft = '[[thread]]\nid = 5\nmode = "soft"\nentry = 0x1000\npermit = true\n'
+    made.setup.write_text(made.setup.read_text() + soft)
+    found = Stacks(read_setup(made.setup), words, Program(None)).all()
+    note = "assumes that regions stay as the setup has them: T5 writes slots, modes or regions"
+    assert found[0].notes == (note,)
