@@ -142,10 +142,9 @@ class Looked:
         skips = False
         for handler in self.handlers.values():
             for word in self._words(self._with_callees(handler)):
-                if word.writes_mepc and not self.code.skips_a_word(word):
-                    raise UnknownStack(
-                        word.pc, "a trap handler comes back to an address that isn't known"
-                    )
+                if word.writes_mepc and not self._skips_once(handler, word):
+                    why = "a trap handler comes back to an address that isn't known"
+                    raise UnknownStack(word.pc, why)
                 skips |= word.writes_mepc
         if skips and self.arms:
             why = "a moment may expire at any word, and a trap handler skips the word"
@@ -153,6 +152,20 @@ class Looked:
         if skips:
             self._look_at_fetches()
         return skips
+
+    def _skips_once(self, handler: Function, word: Word) -> bool:
+        """Whether a write of mepc adds 4 to it, and no other write comes behind it."""
+        if word.pc not in handler.before or not self.code.skips_a_word(word):
+            return False
+        ahead, seen = list(handler.edges[word.pc]), set[int]()
+        while ahead:
+            pc = ahead.pop()
+            if pc not in seen:
+                seen.add(pc)
+                ahead += handler.edges.get(pc, [])
+        called = self.functions.called_from(handler.calls[pc] for pc in handler.calls if pc in seen)
+        behind = [*map(self.code.word, seen), *self._words(called)]
+        return not any(it.writes_mepc for it in behind)
 
     def _look_at_fetches(self) -> None:
         """A handler that skips words would go on where the thread may not fetch."""

@@ -41,6 +41,7 @@ UNKNOWN_ASSEMBLER = {
     "asks_in_handler": "handler+0x8 (t0_asks_in_handler.s:12): a trap in the trap handler handler",
     "returns_from_trap": "a trap handler returns by `ret`: x1 is that of the code that trapped",
     "large_frame": "f+0x8 (t0_large_frame.s:8): sp is above where it was at the call",
+    "skips_two": "a trap handler comes back to an address that isn't known",
     "unlinked": "main0 (t0_unlinked.s:4): a call by x5: -mno-save-restore calls by x1 only",
 }
 HOLDS_ASSEMBLER = {
