@@ -352,7 +352,7 @@ class Reader:
         """The stack pointer behind a word that writes it: a number is a new top, but between the
         two words of `la`."""
         if value.origin not in (STACK_POINTER, TOP, None):
-            why = "sp gets a value that isn't known: alloca, or an array of variable length"
+            why = "sp gets a value that isn't known: alloca, a variable length, or an alignment"
             raise UnknownStack(word.pc, why)
         if value.origin == STACK_POINTER and value.offset > 0:
             raise UnknownStack(word.pc, "sp is above where it was at the call")

@@ -129,7 +129,7 @@ def test_a_random_program_has_a_path_of_its_bound(flexpret: str, tmp_path: Path,
     setup, at = set_up(flexpret, tmp_path, made, FRAMES[seed % len(FRAMES)]), labels_of(made.source)
     listed = tmp_path / "routines"
     listed.write_text("".join(f"{at[it]:08x} {at['end_' + it]:08x}\n" for it in ("f", "g")))
-    words = [flexpret, "calls", setup, "--thread", "0", "--routines", listed]
+    words = [flexpret, "calls", str(setup), "--thread", "0", "--routines", str(listed)]
     words += ["--from", hex(at["begin"]), "--to", hex(at["done"])]
     told = subprocess.run(words, capture_output=True, text=True, check=False).stdout.strip()
     search = search_of(setup, at)

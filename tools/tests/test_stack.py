@@ -22,7 +22,7 @@ NOT_TAKEN = ("untaken",)
 UNKNOWN_C = {
     "recursion": "recursion: even > odd > even",
     "pointer": "a call through a pointer: what it calls isn't known",
-    "variable": "sp gets a value that isn't known: alloca, or an array of variable length",
+    "variable": "sp gets a value that isn't known: alloca, a variable length, or an alignment",
     "alloca": "sp isn't the same on each path to here: it grows in a loop, or by alloca",
 }
 UNKNOWN_ASSEMBLER = {
