@@ -38,8 +38,17 @@ class Verdict(IntEnum):
 
 
 @dataclass(frozen=True)
+class PeriodOf:
+    """Loops that wait: those of a function or around an address, or all of a thread where neither is given."""
+
+    loop: int | str | None
+    ns: int | None  # from the moment of a wait to that of the next one; None if only the bound is wanted
+
+
+@dataclass(frozen=True)
 class Budget:
-    """A section and the most cycles that it may take; None if only its bound is wanted."""
+    """A section and the most cycles that it may take; None if only its bound is wanted. Or the period of a loop that
+    waits: `start` and `end` are 0 then."""
 
     name: str
     thread: int
@@ -49,6 +58,7 @@ class Budget:
     calls: bool = False
     exits: tuple[int | str, ...] = ()
     assume: frozenset[Assumption] = frozenset()
+    period: PeriodOf | None = None
 
     def __str__(self) -> str:
         return f"T{self.thread} {self.name}"
@@ -120,6 +130,10 @@ def fault_text(fault: Exception, budgets: Path | None) -> str:
 
 def _budget(table: Mapping[str, Any], period: int) -> Budget:
     cycles = table["cycles"] if "cycles" in table else table["ns"] // period
+    if "period" in table:
+        assume = frozenset(map(Assumption, table.get("assume", [])))
+        of = PeriodOf(table["period"], table["ns"])
+        return Budget(table["name"], table["thread"], 0, 0, cycles, True, (), assume, of)
     return Budget(
         table["name"], table["thread"], table["from"], table["to"], cycles,
         table.get("calls", False), tuple(table.get("exits", [])), frozenset(map(Assumption, table.get("assume", []))),

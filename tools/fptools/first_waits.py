@@ -1,0 +1,98 @@
+"""Whether the first wait of a loop is in time: by the time that the code reads before it, or by the wait before it."""
+from __future__ import annotations
+
+from dataclasses import dataclass, field
+from enum import IntEnum
+
+from fptools.budgets import Unknown
+from fptools.moments import Absolute, Behind, Moment, Moments, Unclear
+from fptools.period_bounds import PathBounds
+from fptools.turns import Turns
+from fptools.unfolded import Place, is_wait
+
+
+class Timely(IntEnum):
+    """Whether waits are in time. The largest of several counts."""
+
+    IN_TIME = 0
+    NOT_KNOWN = 1
+    LATE = 2  # it may be late
+
+
+@dataclass(frozen=True)
+class Judgement:
+    """Whether a wait is in time, and why it isn't, or isn't known to be."""
+
+    timely: Timely
+    why: str = ""
+
+
+IN_TIME = Judgement(Timely.IN_TIME)
+
+
+@dataclass
+class FirstWaits:
+    """Judges the waits that are before a loop's first."""
+
+    bounds: PathBounds
+    moments: Moments
+    turns: Turns
+    _behind: dict[Place, dict[Place, Moment]] = field(default_factory=dict)
+
+    def moments_behind(self, begin: Place) -> dict[Place, Moment]:
+        if begin not in self._behind:
+            self._behind[begin] = self.moments.behind(begin)
+        return self._behind[begin]
+
+    def judged(self, waits: frozenset[Place]) -> Judgement:
+        """Whether each wait of a loop is in time when it is reached from outside of the loop."""
+        return self._worst([self._reached(it, waits, waits) for it in sorted(waits)])
+
+    @staticmethod
+    def _worst(found: list[Judgement]) -> Judgement:
+        return max(found, key=lambda it: it.timely, default=IN_TIME)
+
+    def _reached(self, wait: Place, inner: frozenset[Place], known: frozenset[Place]) -> Judgement:
+        """Whether a wait is in time when it is reached from another place than a wait of `inner`. Those of `known` are
+        judged elsewhere: by induction over the waits of a run, they are in time up to there."""
+        unfolded = self.bounds.unfolded
+        if is_wait(unfolded.steps[unfolded.first].word):
+            return Judgement(Timely.NOT_KNOWN, f"{self._where(unfolded.first)}: the thread begins with a wait")
+        found = []
+        for begin in [it for it in [unfolded.first, *unfolded.waits] if it not in inner]:
+            if not any(it.place == wait for it in self.bounds.paths(begin).ends):
+                continue
+            before = IN_TIME
+            if is_wait(unfolded.steps[begin].word) and begin not in known:
+                before = self._reached(begin, frozenset(), known | {begin})
+            found.append(self._one(begin, wait, before))
+        return self._worst(found)
+
+    def _one(self, begin: Place, wait: Place, before: Judgement) -> Judgement:
+        """Whether a wait is in time that is the next one behind another, or behind the entry."""
+        moment = self.moments_behind(begin)[wait]
+        try:
+            if isinstance(moment, Behind) and moment.reading is not None:
+                cycles = self.bounds.most(moment.reading, wait, True)
+                return self._compared(wait, cycles, moment.ns, "the reading of the time at", moment.reading)
+            if isinstance(moment, Behind):
+                cycles = self.bounds.most(begin, wait)
+                found = self._compared(wait, cycles, moment.ns, "the moment of the wait at", begin)
+                return found if found.timely >= before.timely else before
+            if isinstance(moment, Absolute) and begin == self.bounds.unfolded.first:
+                cycles = self.turns.next(0) + self.bounds.most(begin, wait)
+                return self._compared(wait, cycles, moment.ns, "the start at", begin)
+        except Unknown as why:
+            return Judgement(Timely.NOT_KNOWN, f"{self._where(wait)}: the first wait isn't known to be in time: {why}")
+        why = moment.why if isinstance(moment, Unclear) else "its moment is the same each time"
+        return Judgement(Timely.NOT_KNOWN, f"{self._where(wait)}: the first wait isn't known to be in time: {why}")
+
+    def _compared(self, wait: Place, cycles: int, ns: int, what: str, begin: Place) -> Judgement:
+        needed = cycles * self.bounds.judge.setup.period
+        if needed <= ns:
+            return IN_TIME
+        text = f"{self._where(wait)}: the first wait may be late: it takes up to {needed} ns from {what}"
+        return Judgement(Timely.LATE, f"{text} {self._where(begin)}, and its moment is {ns} ns behind that")
+
+    def _where(self, place: Place) -> str:
+        return self.bounds.judge.where(place.pc)
