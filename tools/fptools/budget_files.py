@@ -92,6 +92,7 @@ class Result:
     functions: tuple[str, ...] = ()
     executions: int | None = None  # how many a run had; None without a run
     longest: int | None = None  # the cycles of the longest of them
+    waits: tuple[int, ...] = ()  # of a period: the addresses of its loop's waits
 
     @property
     def note(self) -> str | None:

@@ -82,10 +82,13 @@ class FirstWaits:
             if isinstance(moment, Absolute) and begin == self.bounds.unfolded.first:
                 cycles = self.turns.next(0) + self.bounds.most(begin, wait)
                 return self._compared(wait, cycles, moment.ns, "the start at", begin)
-        except Unknown as why:
-            return Judgement(Timely.NOT_KNOWN, f"{self._where(wait)}: the first wait isn't known to be in time: {why}")
-        why = moment.why if isinstance(moment, Unclear) else "its moment is the same each time"
-        return Judgement(Timely.NOT_KNOWN, f"{self._where(wait)}: the first wait isn't known to be in time: {why}")
+        except Unknown as fault:
+            return self._not_known(wait, str(fault))
+        return self._not_known(wait, moment.why if isinstance(moment, Unclear) else "its moment is the same each time")
+
+    def _not_known(self, wait: Place, why: str) -> Judgement:
+        text = f"{self._where(wait)}: the first wait isn't known to be in time: {why}"
+        return Judgement(Timely.NOT_KNOWN, text)
 
     def _compared(self, wait: Place, cycles: int, ns: int, what: str, begin: Place) -> Judgement:
         needed = cycles * self.bounds.judge.setup.period

@@ -2,12 +2,11 @@
 from __future__ import annotations
 
 from dataclasses import dataclass, field
-from functools import cached_property
-from pathlib import Path
-from typing import Any, Iterable, Mapping
+from typing import Any, Iterable
 
+from fptools import require
 from fptools.answers import Bound, NoAnswer, read_answer
-from fptools.budget_files import Assumption, Budget, LoopFact
+from fptools.budget_files import Budget, LoopFact
 from fptools.budgets import Asked, Judge, Unknown
 from fptools.image import write_image
 from fptools.loops import StatedLoop
@@ -15,9 +14,12 @@ from fptools.names import MOST_LOOPS, Names, toml_of
 from fptools.paths import Node, Paths
 from fptools.placed import Placed, PlacedLoop, Placer
 from fptools.section import Section, walk, walk_all
-from fptools.setup import DATA_START, LARGE
 from fptools.unfolded import NotUnfolded, Place, Unfolded
 from fptools.words import Flow
+
+require("networkx")
+
+import networkx  # noqa: E402
 
 TRAPS = "it traps: a bound ends here"
 LOST = "from here on no wait is reached"
@@ -178,6 +180,4 @@ class PathBounds:
 
 def _is_back(graph: Any, one: Node, head: Node) -> bool:
     """Whether an edge to a loop's head is of the loop."""
-    import networkx
-
     return one == head or bool(networkx.has_path(graph, head, one))

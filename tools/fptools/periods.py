@@ -18,7 +18,7 @@ from fptools.first_waits import FirstWaits, Timely
 from fptools.kept import Called
 from fptools.moments import Absolute, Behind, Moment, Moments, Unclear
 from fptools.names import Names
-from fptools.paths import Node, Paths
+from fptools.paths import Paths
 from fptools.period_bounds import LOST, MISSING, REGISTER, TRAPS, PathBounds
 from fptools.section import Section
 from fptools.thread import ThreadCode
@@ -263,7 +263,10 @@ class Periods:
         notes = tuple(dict.fromkeys([*bounds.notes, *asked.notes]))
         loops = tuple(it for _, it in sorted(bounds.loops.items()))
         functions = tuple(it for _, it in sorted(bounds.functions.items()))
-        return Result(budget, verdict, text, most.cycles, time, notes, loops, functions)
+        waits = tuple(sorted({it.pc for it in loop.waits}))
+        return Result(
+            budget, verdict, text, most.cycles, time, notes, loops, functions, waits=waits
+        )
 
     def _shown(self, pairs: Sequence[Pair]) -> str:
         """What the code shows of the moments."""
