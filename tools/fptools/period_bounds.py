@@ -4,7 +4,6 @@ from __future__ import annotations
 from dataclasses import dataclass, field
 from typing import Any, Iterable
 
-from fptools import require
 from fptools.answers import Bound, NoAnswer, read_answer
 from fptools.budget_files import Budget, LoopFact
 from fptools.budgets import Asked, Judge, Unknown
@@ -16,10 +15,6 @@ from fptools.placed import Placed, PlacedLoop, Placer
 from fptools.section import Section, walk, walk_all
 from fptools.unfolded import NotUnfolded, Place, Unfolded
 from fptools.words import Flow
-
-require("networkx")
-
-import networkx  # noqa: E402
 
 TRAPS = "it traps: a bound ends here"
 LOST = "from here on no wait is reached"
@@ -71,7 +66,7 @@ class PathBounds:
         self._look_at_delays(paths, graph)
         called = self._called(paths, graph)
         placed = Placer(paths, graph, end, self._free_from(called)).placed()
-        facts = [(it, self._fact(paths, it, graph)) for it in placed.loops]
+        facts = [(it, self._fact(it)) for it in placed.loops]
         tables = {(it.head, it.last, fact.bound) for it, fact in facts}
         for part in called:
             tables |= {(it.head, it.last, it.bound) for it in self._facts_of(part)}
@@ -134,19 +129,15 @@ class PathBounds:
 
     # Loops.
 
-    def _fact(self, paths: Paths, loop: PlacedLoop, graph: Any) -> LoopFact:
+    def _fact(self, loop: PlacedLoop) -> LoopFact:
         """How often a loop on the paths goes back: what is known of that of its function."""
         part, heads = self._stated(self._part_of(loop.of))
         stated = heads.get(loop.of.pc)
         if stated is None:
             raise Unknown(f"{self.judge.where(loop.of.pc)}: {LOST}, or not in each round: nothing bounds this loop")
-        depth = len(loop.of.sites)
-        for node in graph:
-            if node.place != loop.of:
-                continue
-            lasts = {(*it.place.sites, it.place.pc)[depth] for it in graph.predecessors(node) if _is_back(graph, it, node)}
-            if not lasts <= {*stated.loop.backs}:
-                raise Unknown(f"{self.judge.where(loop.of.pc)}: a loop in another order than its function's: use fp_layout")
+        if not loop.backs <= {*stated.loop.backs}:
+            text = "a loop in another order than its function's: lay the code out by fp_layout"
+            raise Unknown(f"{self.judge.where(loop.of.pc)}: {text}")
         return self._fact_of(part, stated)
 
     def _part_of(self, place: Place) -> Section:
@@ -176,8 +167,3 @@ class PathBounds:
         self.loops[fact.head] = fact
         self.notes += [it for it in asked.notes if it not in self.notes]
         return fact
-
-
-def _is_back(graph: Any, one: Node, head: Node) -> bool:
-    """Whether an edge to a loop's head is of the loop."""
-    return one == head or bool(networkx.has_path(graph, head, one))

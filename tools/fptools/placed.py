@@ -25,11 +25,13 @@ NOP = 0x0000_0013  # addi x0, x0, 0: lag 1
 
 @dataclass(frozen=True)
 class PlacedLoop:
-    """A loop of the section: its first and last word, and the place of its head in the code."""
+    """A loop of the section: its first and last word; in the code the place of its head, and the words of its function
+    from which it goes back there."""
 
     head: int
     last: int
     of: Place
+    backs: frozenset[int]
 
 
 @dataclass
@@ -187,8 +189,11 @@ class Placer:
         return branch(step.word, pc, self.at[target])
 
     def _loop(self, head: Node, part: frozenset[Node]) -> PlacedLoop:
-        lasts = [self.start + 4 * at for at, (node, _) in enumerate(self.items) if node in part]
-        return PlacedLoop(self.at[head], max(lasts), head.place)
+        words = [self.start + 4 * at for at, (node, _) in enumerate(self.items) if node in part]
+        lasts = (it.place for it in self.graph.predecessors(head) if it in part)
+        depth = len(head.place.sites)
+        backs = frozenset((*it.sites, it.pc)[depth] for it in lasts)
+        return PlacedLoop(self.at[head], max(words), head.place, backs)
 
     def _compare(self, found: Placed) -> None:
         """The placed words lead to each other as the nodes do, apart from jumps that were added."""
