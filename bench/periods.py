@@ -40,6 +40,7 @@ PERIODS = 1000
 CLOCKS = (1, 3, 7, 10, 13, 20, 27, 33, 41)
 LEVELS = ("-O1", "-O2", "-Os", "-O3")
 FIRST_NS = 3_000_000  # the first distance of two moments that is tried, more than each bound
+LEAD_NS = 200_000  # from the begin to the moment that is one distance before the first
 MOST_INPUTS = 3000
 SETUP = """period = {clock}
 image = "{folder}/own.fpx"
@@ -118,7 +119,7 @@ def assembler(random: Random, ns: int) -> str:
     """A program whose loop waits at its end, at its start, in its middle, in a case, or in one of two."""
     code = Code(random)
     code.add("lui x14, 0x20000", "lui x15, 0x40000", f"li x12, {ns}", "gt x10", "gth x11")
-    code.add("li x17, 100000", "add x10, x10, x17", "sltu x13, x10, x17", "add x11, x11, x13", "head: addi x0, x0, 0")
+    code.add(f"li x17, {LEAD_NS}", "add x10, x10, x17", "sltu x13, x10, x17", "add x11, x11, x13", "head: addi x0, x0, 0")
     shape = random.randrange(5)
     if shape in (0, 2):
         code.work(2)
@@ -196,7 +197,7 @@ def in_c(random: Random, ns: int) -> str:
         loop = loop.replace("WORK", " ".join(statement(random, 2) for _ in range(random.randrange(1, 4))), 1)
     # Each loop is in a line of its own, with its comment.
     loop = loop.replace("for (uint32_t", "\n        for (uint32_t")
-    begin = "    {} next = fp_get_time() + 4000000;\n"
+    begin = f"    {{}} next = fp_get_time() + {LEAD_NS};\n"
     if "tick" not in loop:
         return f"{C_HEAD}#define P {ns}\nvoid main0(void)\n{{\n{begin.format('uint64_t')}{loop}\n}}\n"
     tick = "__attribute__((noinline)) static void tick(void) { next += P; fp_wait_until(next); }\n"
@@ -243,7 +244,7 @@ class Trial:
         at, inputs = 0, []
         while at < most_cycles and len(inputs) < MOST_INPUTS:
             inputs.append(f"[{at}, {self.random.choice((15, 0, 9, self.random.randrange(2**16)))}]")
-            at += self.random.randrange(50, 3000)
+            at += self.random.randrange(50, max(most_cycles // 1000, 51))
         path = self.folder / "own.toml"
         path.write_text(SETUP.format(clock=self.clock, folder=self.folder, slots=slots, inputs=", ".join(inputs)))
         return read_valid(path)
@@ -267,12 +268,13 @@ class Trial:
             if found.bound * self.clock == ns:
                 break
             ns = found.bound * self.clock
-        setup = self.setup(PERIODS * ns // self.clock)
+        cycles = (PERIODS + 4) * found.bound + 2 * LEAD_NS // self.clock
+        setup = self.setup(cycles)
         found = self.asked(ns, setup)
         if found.verdict is not Verdict.HOLDS or found.bound is None:
             is_right = found.verdict is Verdict.UNKNOWN
             return f"{name} {found.word} {found.text}", is_right, None
-        runs = PeriodRuns(self.flexpret, setup, (PERIODS + 3) * found.bound + 4_200_000 // self.clock, "periods")
+        runs = PeriodRuns(self.flexpret, setup, cycles, "periods")
         ran = runs.compared([found])[0]
         ratio = (ran.longest or 0) / found.bound
         is_right = ran.verdict is Verdict.HOLDS and (ran.executions or 0) >= PERIODS

@@ -72,19 +72,26 @@ class FirstWaits:
         """Whether a wait is in time that is the next one behind another, or behind the entry."""
         moment = self.moments_behind(begin)[wait]
         try:
-            if isinstance(moment, Behind) and moment.reading is not None:
-                cycles = self.bounds.most(moment.reading, wait, True)
-                return self._compared(wait, cycles, moment.ns, "the reading of the time at", moment.reading)
             if isinstance(moment, Behind):
-                cycles = self.bounds.most(begin, wait)
-                found = self._compared(wait, cycles, moment.ns, "the moment of the wait at", begin)
-                return found if found.timely >= before.timely else before
+                found = self._behind_at_most(begin, wait, moment)
+                is_apart = moment.reading is not None or found.timely >= before.timely
+                return found if is_apart else before
             if isinstance(moment, Absolute) and begin == self.bounds.unfolded.first:
                 cycles = self.turns.next(0) + self.bounds.most(begin, wait)
                 return self._compared(wait, cycles, moment.ns, "the start at", begin)
+            if isinstance(moment, Unclear) and moment.most is not None:
+                found = self._behind_at_most(begin, wait, moment.most)
+                if found.timely is Timely.LATE:
+                    return found
         except Unknown as fault:
             return self._not_known(wait, str(fault))
         return self._not_known(wait, moment.why if isinstance(moment, Unclear) else "its moment is the same each time")
+
+    def _behind_at_most(self, begin: Place, wait: Place, most: Behind) -> Judgement:
+        if most.reading is not None:
+            cycles = self.bounds.most(most.reading, wait, True)
+            return self._compared(wait, cycles, most.ns, "the reading of the time at", most.reading)
+        return self._compared(wait, self.bounds.most(begin, wait), most.ns, "the moment of the wait at", begin)
 
     def _not_known(self, wait: Place, why: str) -> Judgement:
         text = f"{self._where(wait)}: the first wait isn't known to be in time: {why}"

@@ -26,6 +26,7 @@ class Effects:
 
     registers: frozenset[int]  # those that may have other values than before the call
     words: frozenset[int]  # the addresses of words that it stores to
+    lowest: int  # the lowest address in stack frames that it stores to, as a distance from sp: 0 or less
     stores_anywhere: bool  # whether it also stores to addresses that aren't known
     reads_time: bool  # whether it has a GT
 
@@ -38,7 +39,7 @@ class Frame:
     words: Mapping[int, Value] = field(default_factory=dict)
 
 
-ANYTHING = Effects(ALL_REGISTERS, frozenset(), True, True)
+ANYTHING = Effects(ALL_REGISTERS, frozenset(), 0, True, True)
 
 
 @dataclass
@@ -71,17 +72,30 @@ class Called:
             written |= it.registers
         returns = [before[pc] for pc, word in part.reached.items() if word.bits == RETURN]
         given = {at for at in written if all(it.registers[at] == first[at] for it in returns)}
-        stores = [self._address(word, before[pc]) for pc, word in part.reached.items() if word.opcode == OPCODE_STORE]
-        known = frozenset(it.offset % 2**32 & ~3 for it in stores if it.origin is None)
-        stack = first[STACK_POINTER].origin
-        own = [it for it in stores if it.origin == stack and it.offset < 0]
-        is_anywhere = len(own) + sum(it.origin is None for it in stores) < len(stores)
-        return Effects(
-            frozenset(written - given if returns else ALL_REGISTERS),
-            known.union(*(it.words for it in callees)),
-            is_anywhere or any(it.stores_anywhere for it in callees),
-            any(it.reads_time for it in callees) or any(map(reads_time, part.reached.values())),
+        return replace(
+            self._stores(part, before, first),
+            registers=frozenset(written - given if returns else ALL_REGISTERS),
+            reads_time=any(it.reads_time for it in callees) or any(map(reads_time, part.reached.values())),
         )
+
+    def _stores(self, part: Section, before: Mapping[int, Frame], first: State) -> Effects:
+        """Where a function stores to, and those that it calls."""
+        words: set[int] = set()
+        lowest, is_anywhere = 0, False
+        stack = first[STACK_POINTER].origin
+        for pc, word in part.reached.items():
+            if word.opcode == OPCODE_STORE:
+                at = self._address(word, before[pc])
+                if at.origin is None:
+                    words.add(at.offset % 2**32 & ~3)
+                lowest = min(lowest, at.offset & ~3) if at.origin == stack else lowest
+                is_anywhere |= at.origin != stack and at.origin is not None or at.origin == stack and at.offset >= 0
+            if word.flow is Flow.CALL and word.target is not None:
+                called, at = self.effects(word.target), before[pc].registers[STACK_POINTER]
+                words |= called.words
+                lowest = min(lowest, at.offset + called.lowest)
+                is_anywhere |= called.stores_anywhere or at.origin != stack
+        return Effects(frozenset(), frozenset(words), lowest, is_anywhere, False)
 
     def _before(self, part: Section, first: State) -> dict[int, Frame]:
         """What is known before each word of a function."""

@@ -8,7 +8,7 @@ from __future__ import annotations
 from dataclasses import dataclass, field, replace
 from typing import Hashable, Mapping, Union
 
-from fptools.kept import STACK_POINTER, WORD_SIZE, Called
+from fptools.kept import STACK_POINTER, WORD_SIZE, Called, Effects
 from fptools.setup import DATA_START, LARGE, Setup
 from fptools.unfolded import Place, Step, Unfolded, is_wait
 from fptools.words import (
@@ -64,6 +64,11 @@ def number(value: int) -> Linear:
     return Linear(None, value % LOW)
 
 
+def number_of(value: Known) -> int | None:
+    """A value, if it is a number."""
+    return value.offset if isinstance(value, Linear) and value.origin is None else None
+
+
 @dataclass(frozen=True)
 class Kept:
     """A word of memory, and whether it keeps a register for its function's caller."""
@@ -84,7 +89,15 @@ class State:
         if not register:
             return self
         changed = (*self.registers[:register], value, *self.registers[register + 1 :])
-        return replace(self, registers=changed)
+        state = replace(self, registers=changed)
+        return state if register != STACK_POINTER else state.without_frames(self.registers[register], value)
+
+    def without_frames(self, before: Known, after: Known) -> State:
+        """What is known once the stack pointer has another value: nothing of the frames that are given back."""
+        one, other = number_of(before), number_of(after)
+        if one is None or other is None:
+            return replace(self, memory={})
+        return replace(self, memory={at: it for at, it in self.memory.items() if not one <= at < other})
 
 
 @dataclass(frozen=True)
@@ -104,10 +117,12 @@ class Absolute:
 
 @dataclass(frozen=True)
 class Unclear:
-    """Why a moment isn't known. It is wrong where its two words don't belong together."""
+    """Why a moment isn't known. It is wrong where its two words don't belong together; then it may be known which moment it
+    is no later than."""
 
     why: str
     is_wrong: bool = False
+    most: Behind | None = None
 
 
 Moment = Union[Behind, Absolute, Unclear]
@@ -120,26 +135,22 @@ def moment_of(high: Known, low: Known) -> Moment:
     if not isinstance(low, Linear):
         return Unclear("the low word of the moment isn't known")
     if low.origin is None:
-        is_number = isinstance(high, Linear) and high.origin is None
-        if is_number and isinstance(high, Linear):
-            return Absolute(high.offset * LOW + low.offset)
+        first = number_of(high)
+        if first is not None:
+            return Absolute(first * LOW + low.offset)
         return Unclear("the low word of the moment is a number, and the high word isn't known")
     if not isinstance(low.origin, LowOf):
         return Unclear("the low word of the moment isn't the one before plus a number")
-    if isinstance(high, Linear) and high.origin is None:
+    if number_of(high) is not None:
         return Unclear("the high word of the moment is a number: it works for 4.29 seconds", True)
     if not isinstance(high, High) or high.base != low.origin.base:
         return Unclear("the high word of the moment isn't the one before with the carry of the low word")
+    ns = (high.added + TWICE // 2) % TWICE - TWICE // 2
+    reading = high.base if isinstance(high.base, Place) else None
     if high.added % LOW != low.offset:
         text = "the high word of the moment lacks the carry of the low word: it works for 4.29 seconds"
-        return Unclear(text, True)
-    ns = (high.added + TWICE // 2) % TWICE - TWICE // 2
-    return Behind(ns) if high.base == MOMENT else Behind(ns, _place_of(high.base))
-
-
-def _place_of(base: Hashable) -> Place | None:
-    """The place of the GT that a moment is behind. One of before the last wait is no longer known."""
-    return base if isinstance(base, Place) else None
+        return Unclear(text, True, Behind(ns + (low.offset - ns) % LOW, reading))
+    return Behind(ns, reading)
 
 
 @dataclass
@@ -228,20 +239,29 @@ class Moments:
             Linear((place, at), 0) if at in gone and at else it
             for at, it in enumerate(state.registers)
         )
-        memory = {
-            at: it
-            for at, it in state.memory.items()
-            if at not in effects.words and (it.is_saved or not effects.stores_anywhere)
-        }
+        memory = self._memory_behind_call(effects, state)
         latch = Linear((place, "latch"), 0) if effects.reads_time else state.latch
         return State(registers, latch, memory)
 
-    def _address(self, word: Word, state: State) -> int | None:
+    @staticmethod
+    def _memory_behind_call(effects: Effects, state: State) -> dict[int, Kept]:
+        """What is known of the memory once a function has come back."""
+        stack = number_of(state.registers[STACK_POINTER])
+        if stack is None and effects.lowest < 0:
+            return {}
+        frames = range((stack or 0) + effects.lowest, stack or 0)
+        return {
+            at: it
+            for at, it in state.memory.items()
+            if at not in effects.words and at not in frames and (it.is_saved or not effects.stores_anywhere)
+        }
+
+    @staticmethod
+    def _address(word: Word, state: State) -> int | None:
         """The address of a load or store, if it is a number."""
-        base = state.registers[word.rs1]
+        base = number_of(state.registers[word.rs1])
         distance = word.store_offset if word.opcode == OPCODE_STORE else word.immediate
-        is_number = isinstance(base, Linear) and base.origin is None
-        return (base.offset + distance) % LOW if is_number and isinstance(base, Linear) else None
+        return None if base is None else (base + distance) % LOW
 
     def _owner(self, at: int) -> str:
         """Whose a word of the data scratchpad is; empty for what is none."""

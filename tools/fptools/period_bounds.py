@@ -12,8 +12,8 @@ from fptools.loops import StatedLoop
 from fptools.names import MOST_LOOPS, Names, toml_of
 from fptools.paths import Node, Paths
 from fptools.placed import Placed, PlacedLoop, Placer
-from fptools.section import Section, walk, walk_all
-from fptools.unfolded import NotUnfolded, Place, Unfolded
+from fptools.section import Exit, Section, walk, walk_all
+from fptools.unfolded import NotUnfolded, Place, Unfolded, is_wait
 from fptools.words import Flow
 
 TRAPS = "it traps: a bound ends here"
@@ -65,6 +65,7 @@ class PathBounds:
         graph = paths.leading_to(end)
         self._look_at_delays(paths, graph)
         called = self._called(paths, graph)
+        self._look_at_rounds(paths, graph)
         placed = Placer(paths, graph, end, self._free_from(called)).placed()
         facts = [(it, self._fact(it)) for it in placed.loops]
         tables = {(it.head, it.last, fact.bound) for it, fact in facts}
@@ -80,6 +81,15 @@ class PathBounds:
             if word.flow is Flow.WAIT and node != paths.first and not paths.is_end(node):
                 raise Unknown(f"{self.judge.where(word.pc)}: {DELAY}")
 
+    def _look_at_rounds(self, paths: Paths, graph: Any) -> None:
+        """No round of the outermost loop around a wait is free of waits."""
+        around = self.unfolded.around(paths.begin)
+        if not around or not is_wait(paths.step(paths.first).word):
+            return
+        head = Node(0, around[0].head)
+        if head in graph and any(it.level == 0 and it.place in around[0].body for it in graph.predecessors(head)):
+            raise Unknown(f"{self.judge.where(head.place.pc)}: a round from here may come back without a wait")
+
     def _called(self, paths: Paths, graph: Iterable[Node]) -> list[Section]:
         """The functions that the paths call, and that these call."""
         steps = (paths.step(it) for it in graph if not paths.is_end(it))
@@ -89,12 +99,24 @@ class PathBounds:
         found = {it.start: it for start in starts for it in self.called_from(start)}
         return [found[at] for at in sorted(found)]
 
+    def look_at_returns(self, start: int) -> None:
+        """A function that is called before a loop goes back to its call, or doesn't come back."""
+        for part in self._parts_from(start):
+            if part.ends:
+                self.judge.look_at_functions([part])
+                continue
+            left = [it for it in part.ways_out if it.exit is not Exit.TRAP]
+            if left:
+                raise NotUnfolded(left[0].word.pc, f"a function is left here: {left[0].exit.value}")
+
+    def _parts_from(self, start: int) -> list[Section]:
+        function = self.unfolded.function_from(start)
+        below = [it for it in self.names.program.functions if it.start != start]
+        return walk_all(self.judge.image, start, function.end, below, is_function=True)
+
     def called_from(self, start: int) -> list[Section]:
         """A function, and those that it calls. Raises Unknown where one is left other than by `ret`."""
-        function = self.unfolded.function_from(start)
-        image, functions = self.judge.image, self.names.program.functions
-        below = [it for it in functions if it.start != start]
-        parts = walk_all(image, start, function.end, below, is_function=True)
+        parts = self._parts_from(start)
         self.judge.look_at_functions(parts)
         self.functions |= {it.start: self.judge.where(it.start) for it in parts}
         return parts
@@ -108,7 +130,8 @@ class PathBounds:
         image, path, listed = (folder / f"period.{it}" for it in ("fpx", "toml", "routines"))
         words = {pc: bits for it in called for pc, bits in self._words_of(it)}
         image.write_bytes(write_image({**words, **placed.words}))
-        values: dict[str, Any] = {**setup.values, "version": 2, "image": str(image)}
+        threads = [{key: it for key, it in table.items() if key != "inputs"} for table in setup.values["thread"]]
+        values: dict[str, Any] = {**setup.values, "version": 2, "image": str(image), "thread": threads}
         values["loop"] = [dict(zip(("head", "last", "bound"), it)) for it in tables]
         path.write_text(toml_of(values), encoding="utf-8")
         listed.write_text("".join(f"{it.start:08x} {it.end - 4:08x}\n" for it in called), encoding="ascii")
@@ -134,7 +157,7 @@ class PathBounds:
         part, heads = self._stated(self._part_of(loop.of))
         stated = heads.get(loop.of.pc)
         if stated is None:
-            raise Unknown(f"{self.judge.where(loop.of.pc)}: {LOST}, or not in each round: nothing bounds this loop")
+            raise Unknown(f"{self.judge.where(loop.of.pc)}: nothing bounds this loop")
         if not loop.backs <= {*stated.loop.backs}:
             text = "a loop in another order than its function's: lay the code out by fp_layout"
             raise Unknown(f"{self.judge.where(loop.of.pc)}: {text}")

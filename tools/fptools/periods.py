@@ -27,6 +27,7 @@ from fptools.unfolded import NotUnfolded, Place, Ring, Unfolded
 from fptools.words import Flow, Word
 
 NO_TRAP = "no trap"
+FAULTS = (Unknown, NotUnfolded, ProgramError)
 ALONE = "the period of a loop has a bound where a round takes one wait"
 
 
@@ -68,17 +69,19 @@ class Periods:
 
     @cached_property
     def unfolded(self) -> Unfolded:
-        try:
-            return Unfolded(self.thread.code, self.names.program, self.thread.entry)
-        except NotUnfolded as why:
-            raise Unknown(f"{self.judge.where(why.pc)}: {why.text}") from why
+        return Unfolded(self.thread.code, self.names.program, self.thread.entry)
+
+    def _unknown(self, budget: Budget, why: Exception) -> Result:
+        if isinstance(why, NotUnfolded):
+            why = Unknown(f"{self.judge.where(why.pc)}: {why.text}")
+        return self.judge.unknown(budget, why)
 
     def results(self) -> list[Result]:
         """A result for each loop that is asked for."""
         try:
             loops = self._loops()
-        except (Unknown, ProgramError) as why:
-            return [self.judge.unknown(self.budget, why)]
+        except FAULTS as why:
+            return [self._unknown(self.budget, why)]
         return [self._result(it) for it in loops]
 
     def _loops(self) -> list[WaitingLoop]:
@@ -87,8 +90,9 @@ class Periods:
             raise Unknown(wrong)
         pointers = self.thread.without_traps.pointers
         if pointers:
-            at = self.judge.where(pointers[0].pc)
-            raise Unknown(f"{at}: a jump to an address that isn't known: it may lead to a wait")
+            raise NotUnfolded(pointers[0].pc, "a jump to an address that isn't known: it may lead to a wait")
+        for start in sorted(self.unfolded.passed_over):
+            self._path_bounds.look_at_returns(start)
         if self._turns is None:
             raise Unknown("no slot is the thread's own")
         found: dict[Ring, set[Place]] = {}
@@ -149,8 +153,8 @@ class Periods:
             pairs = self._pairs(loop)
             has_trap = self._look_around(loop, asked)
             return self._judged(budget, loop, pairs, asked, has_trap)
-        except (Unknown, ProgramError) as why:
-            return self.judge.unknown(budget, why)
+        except FAULTS as why:
+            return self._unknown(budget, why)
 
     def _place(self, loop: WaitingLoop) -> str:
         """The function of a loop, and the line of its first wait."""
@@ -220,7 +224,7 @@ class Periods:
         self.judge.look_around(asked)
         expiry = self.thread.expiry
         if expiry is None and not any(it.may_trap for it in words.values()):
-            return False
+            return any(it.may_trap or it.traps_by_intent for it in self.thread.without_traps.words.values())
         back = sorted(self.thread.comes_back_to(words), key=lambda it: not it.is_meant)
         if not back:
             return True
@@ -291,9 +295,18 @@ class Periods:
                 raise Unknown(f"{where}: the moment is the same each time: {moment.ns} ns")
             if isinstance(moment, Unclear) and moment.is_wrong:
                 raise Unknown(f"{where}: {moment.why}")
-            if isinstance(moment, Behind) and moment.ns != ns:
-                since = "the one before" if moment.reading is None else f"a reading of the time at {self._where(moment.reading)}"
+            if not isinstance(moment, Behind):
+                continue
+            reading = moment.reading
+            since = "the one before"
+            if reading is not None:
+                since = f"a reading of the time at {self._where(reading)}"
+            if moment.ns != ns:
                 raise Unknown(f"{where}: the moment is {moment.ns} ns behind {since}, and not {ns} ns")
+            if reading is not None:
+                needed = self._path_bounds.most(reading, it.end, True) * self.judge.setup.period
+                if needed > ns:
+                    raise Unknown(f"{where}: it may be late: it takes up to {needed} ns from {since}")
 
 
 def results_of(judge: Judge, budget: Budget) -> list[Result]:

@@ -28,7 +28,7 @@ MOST_PLACES = 20_000
 
 
 class NotUnfolded(Exception):
-    """Why the words of a thread aren't known: a place, and what it does."""
+    """Why the words of a thread aren't known: an address, and what is there."""
 
     def __init__(self, pc: int, text: str) -> None:
         super().__init__(text)
@@ -106,6 +106,12 @@ class Unfolded:
         return Place((), self.entry)
 
     @property
+    def passed_over(self) -> set[int]:
+        """The functions without a wait that are called."""
+        found = (it.word.target for it in self.steps.values() if it.passes_over)
+        return {it for it in found if it is not None}
+
+    @property
     def waits(self) -> list[Place]:
         """The places with a WU, in order."""
         found = (place for place, step in self.steps.items() if is_wait(step.word))
@@ -120,26 +126,26 @@ class Unfolded:
         if flow is Flow.INDIRECT:
             return self._return(place, word)
         if flow is Flow.CALL and word.target is not None:
+            if not word.comes_back:
+                raise NotUnfolded(place.pc, "a call that doesn't keep its return address in x1")
             if not self._leads_to_wait(word.target):
                 return Step(word, onward)
-            return Step(word, None, self._called(place, word, word.target))
+            return Step(word, None, self._called(place, word.target))
         target = None if word.target is None else Place(sites, word.target)
         return Step(word, None if flow is Flow.JUMP else onward, target)
 
     def _return(self, place: Place, word: Word) -> Step:
-        """A `ret` goes back behind the call that led here. Other jumps by a register lead nowhere that is known."""
+        """A `ret` goes back behind the call that led here. No other jump by a register is followed."""
         if word.bits != RETURN or not place.sites:
-            return Step(word)
+            raise NotUnfolded(place.pc, "a jump to an address that isn't known: it may lead to a wait")
         site = place.sites[-1]
         self._look_at_returns(self.code.word(site).target or 0)
         return Step(word, None, Place(place.sites[:-1], site + 4))
 
-    def _called(self, place: Place, word: Word, target: int) -> Place:
+    def _called(self, place: Place, target: int) -> Place:
         outer = [self.code.word(it).target for it in place.sites]
         if target in outer or len(outer) >= MOST_CALLS:
             raise NotUnfolded(place.pc, "recursion on the path to a wait")
-        if not word.comes_back:
-            raise NotUnfolded(place.pc, "a call that doesn't keep its return address in x1 leads to a wait")
         return Place((*place.sites, place.pc), target)
 
     def _leads_to_wait(self, target: int) -> bool:
