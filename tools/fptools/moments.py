@@ -47,6 +47,14 @@ class LowOf:
 
 
 @dataclass(frozen=True)
+class Words:
+    """Two values that aren't known, as the high and the low word of a moment."""
+
+    high: Hashable
+    low: Hashable
+
+
+@dataclass(frozen=True)
 class Carry:
     """The carry where a number is added to a value with a distance, plus a number."""
 
@@ -58,6 +66,11 @@ class Carry:
 
 Known = Union[Linear, High, Carry]
 MOMENT = "the moment of the wait before"
+
+
+def low_of(base: Hashable) -> Hashable:
+    """The origin of the low word of a moment."""
+    return base.low if isinstance(base, Words) else LowOf(base)
 
 
 def number(value: int) -> Linear:
@@ -327,9 +340,12 @@ class Rebase:
     def _as_high(self, value: Known) -> Known | None:
         high, low = self.high, self.low
         if isinstance(high, High) and isinstance(value, High) and value.base == high.base:
-            is_whole = isinstance(low, Linear) and low == Linear(LowOf(high.base), high.added % LOW)
-            if is_whole or value == high:
+            if value == high or low == Linear(low_of(high.base), high.added % LOW):
                 return High(MOMENT, (value.added - high.added) % TWICE)
+        if isinstance(high, High) and isinstance(high.base, Words) and isinstance(value, Linear):
+            is_whole = low == Linear(high.base.low, high.added % LOW)
+            if is_whole and value.origin == high.base.high:
+                return High(MOMENT, (value.offset * LOW - high.added) % TWICE)
         if isinstance(high, Linear) and isinstance(value, Linear) and value.origin == high.origin:
             return High(MOMENT, (value.offset - high.offset) % LOW * LOW)
         return High(MOMENT, 0) if value == high else None
@@ -390,9 +406,11 @@ def added(one: Known, other: Known) -> Known | None:
         return replace(one, plus=(one.plus + other.offset) % LOW)
     if isinstance(one, Carry):
         one, other = other, one
-    if not (isinstance(one, High) and isinstance(other, Carry)):
+    if not isinstance(other, Carry):
         return None
-    if other.origin != LowOf(one.base) or other.offset != one.added % LOW:
+    if isinstance(one, Linear):
+        one = High(Words(one.origin, other.origin), one.offset * LOW)
+    if not isinstance(one, High) or other.origin != low_of(one.base) or other.offset != one.added % LOW:
         return None
     return High(one.base, (one.added + other.added + other.plus * LOW) % TWICE)
 
