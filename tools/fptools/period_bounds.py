@@ -136,7 +136,7 @@ class PathBounds:
         path.write_text(toml_of(values), encoding="utf-8")
         listed.write_text("".join(f"{it.start:08x} {it.end - 4:08x}\n" for it in called), encoding="ascii")
         asked = self.names.flexpret.calls(path, self.budget.thread, placed.start, placed.end, listed)
-        text = f"status {asked.status}: {asked.text}"
+        text = f"status {asked.status}: {asked.reason}"
         try:
             found = read_answer(asked.text)
         except NoAnswer:

@@ -5,7 +5,7 @@ from dataclasses import dataclass, field, replace
 from typing import Sequence
 
 from fptools.budget_files import Result, Verdict
-from fptools.observed import opened_run
+from fptools.observed import RETIRES, opened_run
 from fptools.program import Flexpret
 from fptools.setup import Setup
 from fptools.trace import CAUSES
@@ -13,8 +13,6 @@ from fptools.trace_blocks import Block, BrokenTrace, Progress, TraceReader
 from fptools.turns import turns_of
 from fptools.visits import TrapMeter, WaitJudge, measure
 from fptools.words import FUNCT3_WAITS
-
-CYCLES_TO_RETIRE = 4
 
 
 @dataclass
@@ -106,7 +104,7 @@ class PeriodRuns:
         period, ns = self.setup.period, result.budget.period.ns if result.budget.period else None
         cycles = -(-seen.longest // period)
         result = replace(result, executions=seen.periods, longest=cycles if seen.periods else None)
-        open_for = max(self.cycles - CYCLES_TO_RETIRE, 0) * period - seen.begun if seen.begun is not None else 0
+        open_for = max(self.cycles - RETIRES, 0) * period - seen.begun if seen.begun is not None else 0
         bound = (result.bound or 0) * period
         if broken:
             return replace(result, verdict=Verdict.UNKNOWN, text=f"{broken}; {result.text}")

@@ -12,8 +12,8 @@ from pathlib import Path
 from typing import Sequence
 
 from fptools.budget_files import Assumption, Budget, PeriodOf, Result, Verdict
-from fptools.budgets import Asked, Judge, Unknown, other_word
-from fptools.elf import ProgramError
+from fptools.budgets import Asked, Judge, Unknown
+from fptools.elf import ProgramError, other_word
 from fptools.first_waits import FirstWaits, Timely
 from fptools.kept import Called
 from fptools.moments import Absolute, Behind, Moment, Moments, Unclear
