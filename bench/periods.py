@@ -1,13 +1,15 @@
 #!/usr/bin/env python3
-"""Compares the periods that fp_budget bounds with runs: programs in assembler and C, frames of one to eight slots, odd clocks.
+"""Compares the periods that fp_budget bounds with runs: programs in assembler and C, frames of one
+to eight slots, odd clocks.
 
-For each program it takes the bound as the distance of two moments. Then fp_budget has to answer `holds`, and in a run of
-1,000 periods none may be longer than the bound, and no wait late.
+For each program it takes the bound as the distance of two moments. Then fp_budget has to answer
+`holds`, and in a run of 1,000 periods none may be longer than the bound, and no wait late.
 
     bench/periods.py --count 200 --seed 1
 
-A row: the number and kind of a program, its frame (T a slot of the thread, S of others), the nanoseconds of a cycle, the
-bound, the longest period of the run, and their ratio. Status 1 where a promise is broken."""
+A row: the number and kind of a program, its frame (T a slot of the thread, S of others), the
+nanoseconds of a cycle, the bound, the longest period of the run, and their ratio. Status 1 where
+a promise is broken."""
 from __future__ import annotations
 
 import argparse
@@ -83,7 +85,11 @@ class Code:
         """A case that an input decides on; it may have another one."""
         other, end = self.label(), self.label()
         bit = 1 << self.random.randrange(4)
-        self.add("lw x16, 0(x15)", f"andi x16, x16, {bit}", f"{self.random.choice(('beq', 'bne'))} x16, x0, {other}")
+        self.add(
+            "lw x16, 0(x15)",
+            f"andi x16, x16, {bit}",
+            f"{self.random.choice(('beq', 'bne'))} x16, x0, {other}",
+        )
         self.work(depth - 1)
         if self.random.random() < 0.6:
             self.add(f"j {end}", f"{other}: addi x0, x0, 0")
@@ -100,11 +106,18 @@ class Code:
         self.work(depth - 1)
         if self.random.random() < 0.3:
             self.add("lw x16, 0(x15)", "andi x16, x16, 8", f"bne x16, x0, {out}")
-        self.add(f"addi {register}, {register}, -1", f"bne {register}, x0, {head}", f"{out}: addi x0, x0, 0")
+        self.add(
+            f"addi {register}, {register}, -1",
+            f"bne {register}, x0, {head}",
+            f"{out}: addi x0, x0, 0",
+        )
 
     def work(self, depth: int) -> None:
         for _ in range(self.random.randrange(1, 4)):
-            kinds = [self.plain, self.plain] + [lambda: self.choice(depth), lambda: self.loop(depth)] * (depth > 0)
+            kinds = [self.plain, self.plain] + [
+                lambda: self.choice(depth),
+                lambda: self.loop(depth),
+            ] * (depth > 0)
             self.random.choice(kinds)()
 
     def wait(self) -> None:
@@ -116,10 +129,17 @@ class Code:
 
 
 def assembler(random: Random, ns: int) -> str:
-    """A program whose loop waits at its end, at its start, in its middle, in a case, or in one of two."""
+    """A program whose loop waits at its end, at its start, in its middle, in a case, or in one of
+    two."""
     code = Code(random)
     code.add("lui x14, 0x20000", "lui x15, 0x40000", f"li x12, {ns}", "gt x10", "gth x11")
-    code.add(f"li x17, {LEAD_NS}", "add x10, x10, x17", "sltu x13, x10, x17", "add x11, x11, x13", "head: addi x0, x0, 0")
+    code.add(
+        f"li x17, {LEAD_NS}",
+        "add x10, x10, x17",
+        "sltu x13, x10, x17",
+        "add x11, x11, x13",
+        "head: addi x0, x0, 0",
+    )
     shape = random.randrange(5)
     if shape in (0, 2):
         code.work(2)
@@ -194,12 +214,16 @@ def in_c(random: Random, ns: int) -> str:
     """A program in C whose loop waits somewhere, also in a function."""
     loop = random.choice(C_LOOPS)
     while "WORK" in loop:
-        loop = loop.replace("WORK", " ".join(statement(random, 2) for _ in range(random.randrange(1, 4))), 1)
+        loop = loop.replace(
+            "WORK", " ".join(statement(random, 2) for _ in range(random.randrange(1, 4))), 1
+        )
     # Each loop is in a line of its own, with its comment.
     loop = loop.replace("for (uint32_t", "\n        for (uint32_t")
     begin = f"    {{}} next = fp_get_time() + {LEAD_NS};\n"
     if "tick" not in loop:
-        return f"{C_HEAD}#define P {ns}\nvoid main0(void)\n{{\n{begin.format('uint64_t')}{loop}\n}}\n"
+        return (
+            f"{C_HEAD}#define P {ns}\nvoid main0(void)\n{{\n{begin.format('uint64_t')}{loop}\n}}\n"
+        )
     tick = "__attribute__((noinline)) static void tick(void) { next += P; fp_wait_until(next); }\n"
     return f"{C_HEAD}#define P {ns}\nstatic uint64_t next;\n{tick}void main0(void)\n{{\n{begin.format('')}{loop}\n}}\n"
 
@@ -228,7 +252,15 @@ class Trial:
         random = Random(self.drawn)
         if self.is_c:
             (self.folder / "t0_main.c").write_text(in_c(random, ns))
-            words = ["make", "-s", "-B", "-C", str(self.folder), "PROGRAM=own", "OBJECTS=start.o t0_main.o"]
+            words = [
+                "make",
+                "-s",
+                "-B",
+                "-C",
+                str(self.folder),
+                "PROGRAM=own",
+                "OBJECTS=start.o t0_main.o",
+            ]
             words += [f"OPTIONS={self.level} -g", f"FP_LAYOUT={TOP}/tools/fp_layout"]
             made = subprocess.run(words, capture_output=True, text=True, check=False)
             if made.returncode:
@@ -237,17 +269,26 @@ class Trial:
         else:
             (self.folder / "own.s").write_text(assembler(random, ns))
             words = [self.flexpret.path, "asm", str(self.folder / "own.s")]
-        (self.folder / "own.fpx").write_bytes(subprocess.run(words, capture_output=True, check=True).stdout)
+        (self.folder / "own.fpx").write_bytes(
+            subprocess.run(words, capture_output=True, check=True).stdout
+        )
 
     def setup(self, most_cycles: int) -> Setup:
-        slots = ", ".join([f'"{"T0" if it == "T" else "S"}"' for it in self.frame] + ['"D"'] * (8 - len(self.frame)))
+        slots = ", ".join(
+            [f'"{"T0" if it == "T" else "S"}"' for it in self.frame]
+            + ['"D"'] * (8 - len(self.frame))
+        )
         at = 0
         inputs: list[str] = []
         while at < most_cycles and len(inputs) < MOST_INPUTS:
             inputs.append(f"[{at}, {self.random.choice((15, 0, 9, self.random.randrange(2**16)))}]")
             at += self.random.randrange(50, max(most_cycles // 1000, 51))
         path = self.folder / "own.toml"
-        path.write_text(SETUP.format(clock=self.clock, folder=self.folder, slots=slots, inputs=", ".join(inputs)))
+        path.write_text(
+            SETUP.format(
+                clock=self.clock, folder=self.folder, slots=slots, inputs=", ".join(inputs)
+            )
+        )
         return read_valid(path)
 
     def asked(self, ns: int | None, setup: Setup) -> Result:
@@ -258,8 +299,11 @@ class Trial:
         return max(results_of(judge, budget), key=lambda it: (it.verdict, it.bound or 0))
 
     def row(self) -> tuple[str, bool, float | None]:
-        """The row of the program, whether it is right, and the ratio of the longest period and the bound."""
-        name = f"{self.number:4} {'C ' + self.level if self.is_c else 'asm'} {self.frame} {self.clock}"
+        """The row of the program, whether it is right, and the ratio of the longest period and the
+        bound."""
+        name = (
+            f"{self.number:4} {'C ' + self.level if self.is_c else 'asm'} {self.frame} {self.clock}"
+        )
         ns, bound = FIRST_NS, 0
         for _ in range(4):  # the distance may change the code that adds it
             self.built(ns)
@@ -280,7 +324,11 @@ class Trial:
         ran = runs.compared([found])[0]
         ratio = (ran.longest or 0) / found.bound
         is_right = ran.verdict is Verdict.HOLDS and (ran.executions or 0) >= PERIODS
-        return f"{name} {found.bound} {ran.longest} {ratio:.4f}{'' if is_right else f' WRONG: {ran.text}'}", is_right, ratio
+        return (
+            f"{name} {found.bound} {ran.longest} {ratio:.4f}{'' if is_right else f' WRONG: {ran.text}'}",
+            is_right,
+            ratio,
+        )
 
 
 def prepared(folder: Path) -> None:
@@ -291,13 +339,21 @@ def prepared(folder: Path) -> None:
 
 
 def main() -> int:
-    parser = argparse.ArgumentParser(description=__doc__, formatter_class=argparse.RawDescriptionHelpFormatter)
+    parser = argparse.ArgumentParser(
+        description=__doc__, formatter_class=argparse.RawDescriptionHelpFormatter
+    )
     parser.add_argument("--count", type=int, default=200, help="how many programs")
     parser.add_argument("--seed", type=int, default=1)
     parser.add_argument("--first", type=int, default=0, help="the number of the first program")
-    parser.add_argument("--flexpret", help="the program; else what FLEXPRET names, or the built one")
+    parser.add_argument(
+        "--flexpret", help="the program; else what FLEXPRET names, or the built one"
+    )
     asked = parser.parse_args()
-    flexpret = Flexpret(asked.flexpret or os.environ.get("FLEXPRET") or str(TOP / "crates/flexpret_cli/out/flexpret_cli"))
+    flexpret = Flexpret(
+        asked.flexpret
+        or os.environ.get("FLEXPRET")
+        or str(TOP / "crates/flexpret_cli/out/flexpret_cli")
+    )
     ratios, wrong, without = [], 0, 0
     for number in range(asked.first, asked.first + asked.count):
         with tempfile.TemporaryDirectory(prefix="periods-") as folder:

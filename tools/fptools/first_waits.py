@@ -1,11 +1,13 @@
-"""Whether the first wait of a loop is in time: by the time that the code reads before it, or by the wait before it."""
+"""Whether the first wait of a loop is in time: by the time that the code reads before it, or by the
+wait before it."""
 from __future__ import annotations
 
 from dataclasses import dataclass, field
 from enum import IntEnum
 
 from fptools.budgets import Unknown
-from fptools.moments import Absolute, Behind, Moment, Moments, Unclear
+from fptools.moment_values import Absolute, Behind, Moment, Unclear
+from fptools.moments import Moments
 from fptools.period_bounds import PathBounds
 from fptools.turns import Turns
 from fptools.unfolded import Place, is_wait
@@ -53,11 +55,14 @@ class FirstWaits:
         return max(found, key=lambda it: it.timely, default=IN_TIME)
 
     def _reached(self, wait: Place, inner: frozenset[Place], known: frozenset[Place]) -> Judgement:
-        """Whether a wait is in time when it is reached from another place than a wait of `inner`. Those of `known` are
-        judged elsewhere: by induction over the waits of a run, they are in time up to there."""
+        """Whether a wait is in time when it is reached from another place than a wait of `inner`.
+        Those of `known` are judged elsewhere: by induction over the waits of a run, they are in
+        time up to there."""
         unfolded = self.bounds.unfolded
         if is_wait(unfolded.steps[unfolded.first].word):
-            return Judgement(Timely.NOT_KNOWN, f"{self._where(unfolded.first)}: the thread begins with a wait")
+            return Judgement(
+                Timely.NOT_KNOWN, f"{self._where(unfolded.first)}: the thread begins with a wait"
+            )
         found = []
         for begin in [it for it in [unfolded.first, *unfolded.waits] if it not in inner]:
             if not any(it.place == wait for it in self.bounds.paths(begin).ends):
@@ -85,13 +90,17 @@ class FirstWaits:
                     return found
         except Unknown as fault:
             return self._not_known(wait, str(fault))
-        return self._not_known(wait, moment.why if isinstance(moment, Unclear) else "its moment is the same each time")
+        return self._not_known(
+            wait, moment.why if isinstance(moment, Unclear) else "its moment is the same each time"
+        )
 
     def _behind_at_most(self, begin: Place, wait: Place, most: Behind) -> Judgement:
         if most.reading is not None:
             cycles = self.bounds.most(most.reading, wait, True)
             return self._compared(wait, cycles, most.ns, "the reading of the time at", most.reading)
-        return self._compared(wait, self.bounds.most(begin, wait), most.ns, "the moment of the wait at", begin)
+        return self._compared(
+            wait, self.bounds.most(begin, wait), most.ns, "the moment of the wait at", begin
+        )
 
     def _not_known(self, wait: Place, why: str) -> Judgement:
         text = f"{self._where(wait)}: the first wait isn't known to be in time: {why}"
@@ -101,8 +110,11 @@ class FirstWaits:
         needed = cycles * self.bounds.judge.setup.period
         if needed <= ns:
             return IN_TIME
-        text = f"{self._where(wait)}: the first wait may be late: it takes up to {needed} ns from {what}"
-        return Judgement(Timely.LATE, f"{text} {self._where(begin)}, and its moment is {ns} ns behind that")
+        text = f"{self._where(wait)}: the first wait may be late: it takes up to {needed} ns"
+        text += f" from {what}"
+        return Judgement(
+            Timely.LATE, f"{text} {self._where(begin)}, and its moment is {ns} ns behind that"
+        )
 
     def _where(self, place: Place) -> str:
         return self.bounds.judge.where(place.pc)

@@ -1,7 +1,9 @@
-"""What a called function changes: registers that it doesn't give back, and the words that it stores to.
+"""What a called function changes: registers that it doesn't give back, and the words that it stores
+to.
 
-A register is given back if it has at each return the value that it had at first, also by way of the function's stack
-frame. That stores by other pointers leave the frame as it is isn't looked at, as for return addresses."""
+A register is given back if it has at each return the value that it had at first, also by way of
+the function's stack frame. That stores by other pointers leave the frame as it is isn't looked
+at, as for return addresses."""
 from __future__ import annotations
 
 from dataclasses import dataclass, field, replace
@@ -11,6 +13,7 @@ from fptools.elf import Program
 from fptools.section import Section, walk
 from fptools.turns import FUNCT3_GET_TIME
 from fptools.values import State, Value, after, joined, unknown
+
 from fptools.words import (
     OPCODE_LOAD, OPCODE_STORE, OPCODE_TIMING, OPCODES_WITHOUT_RESULT, RETURN, Flow, Word,
 )  # fmt: skip
@@ -26,14 +29,15 @@ class Effects:
 
     registers: frozenset[int]  # those that may have other values than before the call
     words: frozenset[int]  # the addresses of words that it stores to
-    lowest: int  # the lowest address in stack frames that it stores to, as a distance from sp: 0 or less
+    lowest: int  # how far below sp it stores to stack frames: 0 or less
     stores_anywhere: bool  # whether it also stores to addresses that aren't known
     reads_time: bool  # whether it has a GT
 
 
 @dataclass(frozen=True)
 class Frame:
-    """What is known before a word: of registers, and of the frame's words by their distance from the first sp."""
+    """What is known before a word: of registers, and of the frame's words by their distance from
+    the first sp."""
 
     registers: State
     words: Mapping[int, Value] = field(default_factory=dict)
@@ -62,12 +66,16 @@ class Called:
         return self._found[start]
 
     def _of(self, part: Section) -> Effects:
-        if any(word.flow is Flow.INDIRECT and word.bits != RETURN for word in part.reached.values()):
+        if any(
+            word.flow is Flow.INDIRECT and word.bits != RETURN for word in part.reached.values()
+        ):
             return ANYTHING
         first = unknown(part.start)
         before = self._before(part, first)
         callees = [self.effects(at) for at in part.callees]
-        written = {it.rd for it in part.reached.values() if it.opcode not in OPCODES_WITHOUT_RESULT} - {0}
+        written = {
+            it.rd for it in part.reached.values() if it.opcode not in OPCODES_WITHOUT_RESULT
+        } - {0}
         for it in callees:
             written |= it.registers
         returns = [before[pc] for pc, word in part.reached.items() if word.bits == RETURN]
@@ -75,7 +83,8 @@ class Called:
         return replace(
             self._stores(part, before, first),
             registers=frozenset(written - given if returns else ALL_REGISTERS),
-            reads_time=any(it.reads_time for it in callees) or any(map(reads_time, part.reached.values())),
+            reads_time=any(it.reads_time for it in callees)
+            or any(map(reads_time, part.reached.values())),
         )
 
     def _stores(self, part: Section, before: Mapping[int, Frame], first: State) -> Effects:
@@ -89,7 +98,12 @@ class Called:
                 if at.origin is None:
                     words.add(at.offset % 2**32 & ~3)
                 lowest = min(lowest, at.offset & ~3) if at.origin == stack else lowest
-                is_anywhere |= at.origin != stack and at.origin is not None or at.origin == stack and at.offset >= 0
+                is_anywhere |= (
+                    at.origin != stack
+                    and at.origin is not None
+                    or at.origin == stack
+                    and at.offset >= 0
+                )
             if word.flow is Flow.CALL and word.target is not None:
                 called, at = self.effects(word.target), before[pc].registers[STACK_POINTER]
                 words |= called.words
@@ -115,18 +129,24 @@ class Called:
         registers = frame.registers
         if word.flow is Flow.CALL and word.target is not None:
             gone = (self.effects(word.target).registers | {word.rd}) - {0}
-            changed = (Value((word.pc + 1, at), 0) if at in gone else it for at, it in enumerate(registers))
+            changed = (
+                Value((word.pc + 1, at), 0) if at in gone else it for at, it in enumerate(registers)
+            )
             return replace(frame, registers=tuple(changed))
         at = self._address(word, frame)
         is_in_frame = at.origin == first[STACK_POINTER].origin
         if word.opcode == OPCODE_STORE and is_in_frame:
-            words = {slot: it for slot, it in frame.words.items() if not slot - 4 < at.offset < slot + 4}
+            words = {
+                slot: it for slot, it in frame.words.items() if not slot - 4 < at.offset < slot + 4
+            }
             if word.funct3 == WORD_SIZE:
                 words[at.offset] = registers[word.rs2]
             return replace(frame, words=words)
         kept = frame.words.get(at.offset) if is_in_frame else None
         if word.opcode == OPCODE_LOAD and word.funct3 == WORD_SIZE and kept is not None and word.rd:
-            return replace(frame, registers=(*registers[: word.rd], kept, *registers[word.rd + 1 :]))
+            return replace(
+                frame, registers=(*registers[: word.rd], kept, *registers[word.rd + 1 :])
+            )
         return replace(frame, registers=after(word, registers))
 
     @staticmethod

@@ -1,7 +1,8 @@
 """The paths from a wait, or another place of a thread, to the next waits.
 
-A path may begin in the middle of loops. To keep each loop with its head as the only entry, places are told apart by the
-outermost loop around the begin whose head the path has passed since."""
+A path may begin in the middle of loops. To keep each loop with its head as the only entry,
+places are told apart by the outermost loop around the begin whose head the path has passed
+since."""
 from __future__ import annotations
 
 from dataclasses import dataclass, field
@@ -18,8 +19,8 @@ import networkx  # noqa: E402
 
 
 class Node(NamedTuple):
-    """A place, and the level of the path there: the index of the outermost loop around its begin that it has gone back
-    to the head of, or the number of these loops."""
+    """A place, and the level of the path there: the index of the outermost loop around its begin
+    that it has gone back to the head of, or the number of these loops."""
 
     level: int
     place: Place
@@ -32,7 +33,8 @@ class Node(NamedTuple):
 
 @dataclass
 class Paths:
-    """All paths from a place until the next waits, which they end at. They don't come back to places in `closed`."""
+    """All paths from a place until the next waits, which they end at. They don't come back to
+    places in `closed`."""
 
     unfolded: Unfolded
     begin: Place
@@ -97,7 +99,8 @@ class Paths:
 
     @cached_property
     def lost(self) -> list[Node]:
-        """Nodes from which no wait is reached, the nearest first: paths that end in a trap, or that go round for ever."""
+        """Nodes from which no wait is reached, the nearest first: paths that end in a trap, or that
+        go round for ever."""
         reaching: set[Node] = set(self.ends)
         for end in self.ends:
             reaching |= networkx.ancestors(self.graph, end)

@@ -1,4 +1,5 @@
-"""The bounds of a thread's paths to its next waits, by the program, with what their sections leave out looked at."""
+"""The bounds of a thread's paths to its next waits, by the program, with what their sections leave
+out looked at."""
 from __future__ import annotations
 
 from dataclasses import dataclass, field
@@ -46,7 +47,8 @@ class PathBounds:
         return self._paths[key]
 
     def most(self, begin: Place, wait: Place, is_last: bool = False) -> int:
-        """The most cycles from the issue at a place to that of a wait, without another wait between. Raises Unknown."""
+        """The most cycles from the issue at a place to that of a wait, without another wait
+        between. Raises Unknown."""
         paths = self.paths(begin, is_last)
         ends = [it for it in paths.ends if it.place == wait]
         return max(self._bound(paths, it, is_last) for it in ends)
@@ -87,13 +89,19 @@ class PathBounds:
         if not around or not is_wait(paths.step(paths.first).word):
             return
         head = Node(0, around[0].head)
-        if head in graph and any(it.level == 0 and it.place in around[0].body for it in graph.predecessors(head)):
-            raise Unknown(f"{self.judge.where(head.place.pc)}: a round from here may come back without a wait")
+        if head in graph and any(
+            it.level == 0 and it.place in around[0].body for it in graph.predecessors(head)
+        ):
+            raise Unknown(
+                f"{self.judge.where(head.place.pc)}: a round from here may come back without a wait"
+            )
 
     def _called(self, paths: Paths, graph: Iterable[Node]) -> list[Section]:
         """The functions that the paths call, and that these call."""
         steps = (paths.step(it) for it in graph if not paths.is_end(it))
-        starts = sorted({it.word.target for it in steps if it.passes_over and it.word.target is not None})
+        starts = sorted(
+            {it.word.target for it in steps if it.passes_over and it.word.target is not None}
+        )
         for start in starts:
             self.unfolded.function_from(start)
         found = {it.start: it for start in starts for it in self.called_from(start)}
@@ -115,7 +123,8 @@ class PathBounds:
         return walk_all(self.judge.image, start, function.end, below, is_function=True)
 
     def called_from(self, start: int) -> list[Section]:
-        """A function, and those that it calls. Raises Unknown where one is left other than by `ret`."""
+        """A function, and those that it calls. Raises Unknown where one is left other than by
+        `ret`."""
         parts = self._parts_from(start)
         self.judge.look_at_functions(parts)
         self.functions |= {it.start: self.judge.where(it.start) for it in parts}
@@ -125,17 +134,31 @@ class PathBounds:
         """The first address behind the functions that are called."""
         return max((it.end for it in called), default=0) + 4 & ~3
 
-    def _written(self, placed: Placed, called: list[Section], tables: list[tuple[int, int, int]]) -> int:
+    def _written(
+        self, placed: Placed, called: list[Section], tables: list[tuple[int, int, int]]
+    ) -> int:
         folder, setup = self.names.folder, self.names.setup
         image, path, listed = (folder / f"period.{it}" for it in ("fpx", "toml", "routines"))
         words = {pc: bits for it in called for pc, bits in self._words_of(it)}
         image.write_bytes(write_image({**words, **placed.words}))
-        threads = [{key: it for key, it in table.items() if key != "inputs"} for table in setup.values["thread"]]
-        values: dict[str, Any] = {**setup.values, "version": 2, "image": str(image), "thread": threads}
+        threads = [
+            {key: it for key, it in table.items() if key != "inputs"}
+            for table in setup.values["thread"]
+        ]
+        values: dict[str, Any] = {
+            **setup.values,
+            "version": 2,
+            "image": str(image),
+            "thread": threads,
+        }
         values["loop"] = [dict(zip(("head", "last", "bound"), it)) for it in tables]
         path.write_text(toml_of(values), encoding="utf-8")
-        listed.write_text("".join(f"{it.start:08x} {it.end - 4:08x}\n" for it in called), encoding="ascii")
-        asked = self.names.flexpret.calls(path, self.budget.thread, placed.start, placed.end, listed)
+        listed.write_text(
+            "".join(f"{it.start:08x} {it.end - 4:08x}\n" for it in called), encoding="ascii"
+        )
+        asked = self.names.flexpret.calls(
+            path, self.budget.thread, placed.start, placed.end, listed
+        )
         text = f"status {asked.status}: {asked.reason}"
         try:
             found = read_answer(asked.text)
@@ -171,7 +194,9 @@ class PathBounds:
             heads = {it.start for it in self.names.program.functions} - {function.start}
             return walk(image, function.start, function.end, heads, is_function=True)
         own = [it.pc for it in self.unfolded.steps if not it.sites]
-        return walk(image, min(own), max(own) + 4, {it.start for it in self.names.program.functions})
+        return walk(
+            image, min(own), max(own) + 4, {it.start for it in self.names.program.functions}
+        )
 
     def _stated(self, part: Section) -> tuple[Asked, dict[int, StatedLoop]]:
         if part.start not in self._parts:

@@ -17,7 +17,8 @@ from fptools.words import FUNCT3_WAITS
 
 @dataclass
 class Seen:
-    """The periods of a loop in a run: from the moment of a wait, or from its issue if that is later, to the next wait."""
+    """The periods of a loop in a run: from the moment of a wait, or from its issue if that is
+    later, to the next wait."""
 
     waits: int = 0
     periods: int = 0
@@ -44,7 +45,11 @@ class PeriodMeter:
     def take(self, block: Block) -> None:
         for it in self.judge.judged(block):
             for waits, seen in zip(self.loops, self.seen):
-                if it.word.pc in waits and it.word.funct3 == FUNCT3_WAITS[1] and it.moment is not None:
+                if (
+                    it.word.pc in waits
+                    and it.word.funct3 == FUNCT3_WAITS[1]
+                    and it.moment is not None
+                ):
                     self._add(seen, it.first, it.moment)
                 else:
                     seen.begun = None
@@ -96,7 +101,11 @@ class PeriodRuns:
             except BrokenTrace as fault:
                 broken = str(fault)
         first = min(traps.seen.values(), key=lambda it: it.first, default=None)
-        text = "" if first is None else f"a trap in cycle {first.first} at {first.pc:#x}: {CAUSES.get(first.cause, '')}"
+        text = (
+            ""
+            if first is None
+            else f"a trap in cycle {first.first} at {first.pc:#x}: {CAUSES.get(first.cause, '')}"
+        )
         return text, meter.seen, broken
 
     def _with_run(self, result: Result, seen: Seen, trap: str, broken: str) -> Result:
@@ -104,24 +113,39 @@ class PeriodRuns:
         period, ns = self.setup.period, result.budget.period.ns if result.budget.period else None
         cycles = -(-seen.longest // period)
         result = replace(result, executions=seen.periods, longest=cycles if seen.periods else None)
-        open_for = max(self.cycles - RETIRES, 0) * period - seen.begun if seen.begun is not None else 0
+        open_for = (
+            max(self.cycles - RETIRES, 0) * period - seen.begun if seen.begun is not None else 0
+        )
         bound = (result.bound or 0) * period
         if broken:
             return replace(result, verdict=Verdict.UNKNOWN, text=f"{broken}; {result.text}")
         if seen.longest > bound:
-            text = f"a run has a period of {cycles} cycles, above the bound, to cycle {seen.longest_from}"
-            return replace(result, verdict=Verdict.UNKNOWN, text=f"{_with(text, trap)}; {result.text}")
+            text = f"a run has a period of {cycles} cycles, above the bound"
+            text += f", to cycle {seen.longest_from}"
+            return replace(
+                result, verdict=Verdict.UNKNOWN, text=f"{_with(text, trap)}; {result.text}"
+            )
         if ns is not None and seen.late:
-            text = f"{seen.late} of {seen.waits} waits of a run are late, the first in cycle {seen.first_late}, by up to"
-            return replace(result, verdict=Verdict.OVER, text=f"{_with(f'{text} {seen.most_late} ns', trap)}; {result.text}")
+            text = f"{seen.late} of {seen.waits} waits of a run are late"
+            text += f", the first in cycle {seen.first_late}, by up to"
+            return replace(
+                result,
+                verdict=Verdict.OVER,
+                text=f"{_with(f'{text} {seen.most_late} ns', trap)}; {result.text}",
+            )
         if trap or open_for > bound:
             text = trap or f"a run has no further wait for {open_for // period} cycles"
             return replace(result, verdict=Verdict.UNKNOWN, text=f"{text}; {result.text}")
         if not seen.periods:
             verdict = result.verdict if ns is None else max(result.verdict, Verdict.UNKNOWN)
-            return replace(result, verdict=verdict, text=f"{result.text}; no period in {self.cycles} cycles")
+            return replace(
+                result, verdict=verdict, text=f"{result.text}; no period in {self.cycles} cycles"
+            )
         late = "no wait is late" if not seen.late else f"{seen.late} waits are late"
-        return replace(result, text=f"{result.text}; the longest of {seen.periods} periods takes {cycles}, {late}")
+        return replace(
+            result,
+            text=f"{result.text}; the longest of {seen.periods} periods takes {cycles}, {late}",
+        )
 
 
 def _with(text: str, trap: str) -> str:

@@ -1,8 +1,10 @@
-"""The period of a loop that waits: the most cycles from the moment of a wait to the issue of the next wait.
+"""The period of a loop that waits: the most cycles from the moment of a wait to the issue of the
+next wait.
 
-docs/BOUNDS.md derives it. A wait that issues in a cycle c has moment m. The next instruction issues no later than if the
-wait were a jump that issues at m, or at c if that is later. So the bound of the paths to the next waits, with a jump in
-place of the first wait, holds from there on."""
+docs/BOUNDS.md derives it. A wait that issues in a cycle c has moment m. The next instruction
+issues no later than if the wait were a jump that issues at m, or at c if that is later. So the
+bound of the paths to the next waits, with a jump in place of the first wait, holds from there
+on."""
 from __future__ import annotations
 
 import tempfile
@@ -16,7 +18,8 @@ from fptools.budgets import Asked, Judge, Unknown
 from fptools.elf import ProgramError, other_word
 from fptools.first_waits import FirstWaits, Timely
 from fptools.kept import Called
-from fptools.moments import Absolute, Behind, Moment, Moments, Unclear
+from fptools.moment_values import Absolute, Behind, Moment, Unclear
+from fptools.moments import Moments
 from fptools.names import Names
 from fptools.paths import Paths
 from fptools.period_bounds import LOST, MISSING, REGISTER, TRAPS, PathBounds
@@ -33,7 +36,8 @@ ALONE = "the period of a loop has a bound where a round takes one wait"
 
 @dataclass(frozen=True)
 class Pair:
-    """A wait and the next one, with the most cycles from the moment of the first to the issue of the second."""
+    """A wait and the next one, with the most cycles from the moment of the first to the issue of
+    the second."""
 
     begin: Place
     end: Place
@@ -90,7 +94,9 @@ class Periods:
             raise Unknown(wrong)
         pointers = self.thread.without_traps.pointers
         if pointers:
-            raise NotUnfolded(pointers[0].pc, "a jump to an address that isn't known: it may lead to a wait")
+            raise NotUnfolded(
+                pointers[0].pc, "a jump to an address that isn't known: it may lead to a wait"
+            )
         for start in sorted(self.unfolded.passed_over):
             self._path_bounds.look_at_returns(start)
         if self._turns is None:
@@ -109,14 +115,23 @@ class Periods:
     def _none(self, has_loops: bool) -> str:
         if has_loops:
             return f"no loop of {self.of.loop} waits, that T{self.budget.thread} reaches"
-        text = "no WU is reached again and again" if self.unfolded.waits else "no WU is reached from the entry"
+        text = (
+            "no WU is reached again and again"
+            if self.unfolded.waits
+            else "no WU is reached from the entry"
+        )
         return f"{text} {self.judge.where(self.thread.entry)}: is it the right thread?"
 
     def _is_named(self, loop: WaitingLoop) -> bool:
-        """Whether a loop is asked for: by an address inside of it, or by a function in which it is or that waits for it."""
+        """Whether a loop is asked for: by an address inside of it, or by a function in which it is
+        or that waits for it."""
         if self.of.loop is None:
             return True
-        at = self.of.loop if isinstance(self.of.loop, int) else self.names.program.address(self.of.loop)
+        at = (
+            self.of.loop
+            if isinstance(self.of.loop, int)
+            else self.names.program.address(self.of.loop)
+        )
         function = self.names.program.function_at(at)
         places = {pc for it in loop.ring.body for pc in (*it.sites, it.pc)}
         if function is None or function.start != at:
@@ -185,7 +200,9 @@ class Periods:
             step = paths.step(node)
             if step.ends:
                 continue
-            what = {Flow.TRAP: TRAPS if step.word.is_code else MISSING}.get(step.word.flow, REGISTER)
+            what = {Flow.TRAP: TRAPS if step.word.is_code else MISSING}.get(
+                step.word.flow, REGISTER
+            )
             raise Unknown(f"{self.judge.where(node.place.pc)}: {what}")
         if paths.lost:
             raise Unknown(f"{self.judge.where(paths.lost[0].place.pc)}: {LOST}")
@@ -194,15 +211,20 @@ class Periods:
         """A round takes one wait. Copies of one, of the same source lines, are one."""
         around = self.unfolded.around(paths.begin)
         for node in paths.ends:
-            if node.place not in loop.waits or self._source(node.place) == self._source(paths.begin):
+            if node.place not in loop.waits or self._source(node.place) == self._source(
+                paths.begin
+            ):
                 continue
             shared = sum(node.place in it.body for it in around)
             if node.level >= shared:
-                one, other = self._where_called(paths.begin, loop), self._where_called(node.place, loop)
+                one, other = self._where_called(paths.begin, loop), self._where_called(
+                    node.place, loop
+                )
                 raise Unknown(f"{other}: another wait, behind that at {one}: {ALONE}")
 
     def _source(self, place: Place) -> object:
-        """The source lines of a wait and of the calls that lead to it; the place itself where one isn't known."""
+        """The source lines of a wait and of the calls that lead to it; the place itself where one
+        isn't known."""
         lines = [tuple(self.names.program.lines_of(pc)) or pc for pc in (*place.sites, place.pc)]
         return tuple(lines) if lines[-1] != place.pc else place
 
@@ -224,7 +246,9 @@ class Periods:
         self.judge.look_around(asked)
         expiry = self.thread.expiry
         if expiry is None and not any(it.may_trap for it in words.values()):
-            return any(it.may_trap or it.traps_by_intent for it in self.thread.without_traps.words.values())
+            return any(
+                it.may_trap or it.traps_by_intent for it in self.thread.without_traps.words.values()
+            )
         back = sorted(self.thread.comes_back_to(words), key=lambda it: not it.is_meant)
         if not back:
             return True
@@ -281,7 +305,8 @@ class Periods:
             text += f"; the moments are {' or '.join(map(str, steps))} ns apart"
         for it in sorted(found, key=str):
             if isinstance(it, Behind) and it.reading is not None:
-                text += f"; the moments drift: {it.ns} ns behind the reading of the time at {self._where(it.reading)}"
+                reading = f"{it.ns} ns behind the reading of the time at {self._where(it.reading)}"
+                text += f"; the moments drift: {reading}"
         return text
 
     def _where(self, place: Place) -> str:
@@ -302,22 +327,29 @@ class Periods:
             if reading is not None:
                 since = f"a reading of the time at {self._where(reading)}"
             if moment.ns != ns:
-                raise Unknown(f"{where}: the moment is {moment.ns} ns behind {since}, and not {ns} ns")
+                raise Unknown(
+                    f"{where}: the moment is {moment.ns} ns behind {since}, and not {ns} ns"
+                )
             if reading is not None:
                 needed = self._path_bounds.most(reading, it.end, True) * self.judge.setup.period
                 if needed > ns:
-                    raise Unknown(f"{where}: it may be late: it takes up to {needed} ns from {since}")
+                    raise Unknown(
+                        f"{where}: it may be late: it takes up to {needed} ns from {since}"
+                    )
 
 
 def results_of(judge: Judge, budget: Budget) -> list[Result]:
     """The results for the loops of a budget of a period."""
     with tempfile.TemporaryDirectory() as folder:
-        names = Names(judge.flexpret, judge.setup, judge.image, judge.program, judge.sources, Path(folder))
+        names = Names(
+            judge.flexpret, judge.setup, judge.image, judge.program, judge.sources, Path(folder)
+        )
         return Periods(names, judge, budget).results()
 
 
 def judged(judge: Judge, budget: Budget) -> Result:
-    """The result for a budget: of the loops that it means, the one that is furthest from keeping it."""
+    """The result for a budget: of the loops that it means, the one that is furthest from keeping
+    it."""
     if budget.period is None:
         return judge.judge(budget)
     return max(results_of(judge, budget), key=lambda it: (it.verdict, it.bound or 0))

@@ -1,8 +1,10 @@
-"""Paths as one section: their words are placed one behind the other, so that the program bounds them.
+"""Paths as one section: their words are placed one behind the other, so that the program bounds
+them.
 
-Each node of a graph of paths becomes a word of the same lag. A call that is put in place, and its return, are jumps, as
-all three have the lag 3. A branch of which one edge isn't on the paths is a jump, or a word of lag 1. Each loop is placed
-with its head first. Where a word isn't followed by the one that comes next, a jump is added: it can only add cycles."""
+Each node of a graph of paths becomes a word of the same lag. A call that is put in place, and
+its return, are jumps, as all three have the lag 3. A branch of which one edge isn't on the paths
+is a jump, or a word of lag 1. Each loop is placed with its head first. Where a word isn't
+followed by the one that comes next, a jump is added: it can only add cycles."""
 from __future__ import annotations
 
 import heapq
@@ -20,13 +22,14 @@ require("networkx")
 
 import networkx  # noqa: E402
 
+Key = tuple[int, tuple[int, ...]]
 NOP = 0x0000_0013  # addi x0, x0, 0: lag 1
 
 
 @dataclass(frozen=True)
 class PlacedLoop:
-    """A loop of the section: its first and last word; in the code the place of its head, and the words of its function
-    from which it goes back there."""
+    """A loop of the section: its first and last word; in the code the place of its head, and the
+    words of its function from which it goes back there."""
 
     head: int
     last: int
@@ -41,14 +44,19 @@ class Placed:
     start: int
     end: int = 0
     words: dict[int, int] = field(default_factory=dict)
-    of: dict[int, Place] = field(default_factory=dict)  # the place that a word is of; none for a jump that was added
+    of: dict[int, Place] = field(
+        default_factory=dict
+    )  # the place that a word is of; none for a jump that was added
     loops: list[PlacedLoop] = field(default_factory=list)
-    calls: set[int] = field(default_factory=set)  # the functions that its words call, where they are in the code
+    calls: set[int] = field(
+        default_factory=set
+    )  # the functions that its words call, where they are in the code
 
 
 @dataclass
 class Order:
-    """An order of nodes in which each loop is contiguous with its head first, and all else leads forward."""
+    """An order of nodes in which each loop is contiguous with its head first, and all else leads
+    forward."""
 
     paths: Paths
     nodes: list[Node] = field(default_factory=list)
@@ -81,10 +89,11 @@ class Order:
         return found
 
     def _next(
-        self, found: list[Node], ready: set[int], heap: list[tuple[tuple[int, tuple[int, ...]], int]],
+        self, found: list[Node], ready: set[int], heap: list[tuple[Key, int]],
         units: list[list[Node]], unit_of: Mapping[Node, int],
     ) -> int:  # fmt: skip
-        """What is placed next: the word that follows the last one, if it may be; else the first in the code."""
+        """What is placed next: the word that follows the last one, if it may be; else the first in
+        the code."""
         if found:
             onward = self.onward(found[-1])
             at = unit_of.get(onward) if onward is not None else None
@@ -115,7 +124,9 @@ class Order:
         heads = {to for one, to in graph.edges if to in part and one not in part} | ({first} & part)
         if len(heads) != 1:
             at = min((it.place.pc for it in heads), default=0)
-            raise NotUnfolded(at, "a loop is entered at several words: lay the code out by fp_layout")
+            raise NotUnfolded(
+                at, "a loop is entered at several words: lay the code out by fp_layout"
+            )
         (head,) = heads
         self.loops.append((head, part))
         inner = networkx.DiGraph(graph.subgraph(part))
@@ -144,7 +155,9 @@ class Placer:
         self._arrange(order, [it for it in nodes if it != self.end])
         found.end = self.at[self.end] = self.start + 4 * len(self.items)
         if found.end > LARGE:
-            raise NotUnfolded(self.end.place.pc, "the code up to the wait is too large to be placed again")
+            raise NotUnfolded(
+                self.end.place.pc, "the code up to the wait is too large to be placed again"
+            )
         for index, (node, to) in enumerate(self.items):
             pc = self.start + 4 * index
             if to is not None:
@@ -159,7 +172,8 @@ class Placer:
         return found
 
     def _arrange(self, order: Order, nodes: list[Node]) -> None:
-        """Gives each node a word, and another one for a jump to the node behind it, if that isn't placed next."""
+        """Gives each node a word, and another one for a jump to the node behind it, if that isn't
+        placed next."""
         for node, after in zip(nodes, [*nodes[1:], self.end]):
             self.at[node] = self.start + 4 * len(self.items)
             self.items.append((node, None))
@@ -176,8 +190,12 @@ class Placer:
 
     def _word(self, pc: int, node: Node) -> int:
         step = self.paths.step(node)
-        onward = self._on_path(node, None if step.onward is None else self.paths.to(node, step.onward))
-        target = self._on_path(node, None if step.target is None else self.paths.to(node, step.target))
+        onward = self._on_path(
+            node, None if step.onward is None else self.paths.to(node, step.onward)
+        )
+        target = self._on_path(
+            node, None if step.target is None else self.paths.to(node, step.target)
+        )
         if self._is_jump(node) and onward is not None:
             return jump(pc, self.at[onward])
         if step.passes_over and step.word.target is not None:
@@ -223,6 +241,11 @@ def branch(word: Word, pc: int, target: int) -> int:
     if not -4096 <= way < 4096:
         raise NotUnfolded(word.pc, "a branch leads too far in the code up to the wait")
     bits = word.bits & ~0xFE00_0F80
-    bits |= (way >> 12 & 1) << 31 | (way >> 5 & 0x3F) << 25 | (way >> 1 & 0xF) << 8 | (way >> 11 & 1) << 7
+    bits |= (
+        (way >> 12 & 1) << 31
+        | (way >> 5 & 0x3F) << 25
+        | (way >> 1 & 0xF) << 8
+        | (way >> 11 & 1) << 7
+    )
     assert Word(pc, bits).opcode == OPCODE_BRANCH and Word(pc, bits).target == target
     return bits

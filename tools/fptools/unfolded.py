@@ -1,7 +1,8 @@
-"""The words that a thread may issue from its entry on, with each call that leads to a wait put in place.
+"""The words that a thread may issue from its entry on, with each call that leads to a wait put in
+place.
 
-A place is a word together with the calls by which it is reached. Calls of functions without a wait are passed over:
-they come back to the next word. Trap handlers are left out."""
+A place is a word together with the calls by which it is reached. Calls of functions without a
+wait are passed over: they come back to the next word. Trap handlers are left out."""
 from __future__ import annotations
 
 from collections import defaultdict
@@ -49,7 +50,7 @@ class Place(NamedTuple):
 
 @dataclass(frozen=True)
 class Step:
-    """A word at a place: the place that follows, and the one that it jumps to, calls or returns to."""
+    """A word at a place: the next place, and the one that it jumps to, calls or returns to."""
 
     word: Word
     onward: Place | None = None
@@ -135,9 +136,11 @@ class Unfolded:
         return Step(word, None if flow is Flow.JUMP else onward, target)
 
     def _return(self, place: Place, word: Word) -> Step:
-        """A `ret` goes back behind the call that led here. No other jump by a register is followed."""
+        """A `ret` goes back behind the call that led here. Other jumps by a register are refused."""
         if word.bits != RETURN or not place.sites:
-            raise NotUnfolded(place.pc, "a jump to an address that isn't known: it may lead to a wait")
+            raise NotUnfolded(
+                place.pc, "a jump to an address that isn't known: it may lead to a wait"
+            )
         site = place.sites[-1]
         self._look_at_returns(self.code.word(site).target or 0)
         return Step(word, None, Place(place.sites[:-1], site + 4))
@@ -162,7 +165,9 @@ class Unfolded:
         part = self.part_of(start)
         for way in part.ways_out:
             if way.exit not in (Exit.RETURN, Exit.WAIT):
-                raise NotUnfolded(way.word.pc, f"a function with a wait is left here: {way.exit.value}")
+                raise NotUnfolded(
+                    way.word.pc, f"a function with a wait is left here: {way.exit.value}"
+                )
         wrong = wrong_return(part, lambda at: clobbered_by(self.code.words, at), self.code.words)
         if wrong is not None:
             text = "it isn't certain that this goes back to the call: x1 and x2 change"

@@ -87,7 +87,8 @@ def test_shapes(case: Case, source: str, cycles: int | None) -> None:
 
 
 @pytest.mark.parametrize(
-    ("slots", "cycles"), [("T0 S D D D D D D", 16), ("T0 S S S D D D D", 24), ("T0 T0 S S S D D D", 20)]
+    ("slots", "cycles"),
+    [("T0 S D D D D D D", 16), ("T0 S S S D D D D", 24), ("T0 T0 S S S D D D", 20)],
 )
 def test_frames(case: Case, slots: str, cycles: int) -> None:
     assert f": {cycles} of 200 cycles" in case(loop(), slots=slots).text
@@ -112,7 +113,8 @@ def test_over(case: Case) -> None:
     ],
 )  # fmt: skip
 def test_moments_that_are_no_such_distance_apart(case: Case, source: str, why: str | None) -> None:
-    """A distance that the code shows to be another one is unknown; one that it doesn't show is assumed."""
+    """A distance that the code shows to be another one is unknown; one that it doesn't show is
+    assumed."""
     found = case(source)
     if why is None:
         assert "assumes" in found.text and "moments 2000 ns apart" in found.text, found
@@ -151,7 +153,9 @@ COMES_BACK = "li x22, 45\nmore: addi x22, x22, -1\nbnez x22, more\n"
 def test_a_trap_that_comes_back(case: Case, source: str, to: str) -> None:
     source = f"start: {source}.org 0x400\nhand: {COMES_BACK}j {to}\n"
     found = case(source)
-    assert found.status == 2 and "the trap handler at 0x" in found.text and "leads here" in found.text, found
+    assert (
+        found.status == 2 and "the trap handler at 0x" in found.text and "leads here" in found.text
+    ), found
     found = case(source, assume="no traps")
     assert "assumes no trap" in found.text
 
@@ -196,7 +200,9 @@ def test_a_first_wait_that_may_be_late(case: Case, source: str, why: str) -> Non
 
 def test_a_first_wait_that_is_not_known(case: Case) -> None:
     found = case(loop(first=f"{LOADS}add x10, x10, x16\n"))
-    assert found.status == 0 and "assumes" in found.text and "the first wait in time" in found.text, found
+    assert (
+        found.status == 0 and "assumes" in found.text and "the first wait in time" in found.text
+    ), found
 
 
 @pytest.mark.parametrize(
@@ -204,13 +210,22 @@ def test_a_first_wait_that_is_not_known(case: Case) -> None:
     [
         (loop("du x11, x10\n"), "a DU on the path"),
         (loop(f"{NEXT}wu x11, x10\n"), "another wait, behind that at"),
-        (loop("lw x5, 0(x15)\nbeq x5, x0, head\n"), "a round from here may come back without a wait"),
-        (loop("lw x5, 0(x15)\nbeq x5, x0, away\n") + "away: j away\n", "from here on no wait is reached"),
+        (
+            loop("lw x5, 0(x15)\nbeq x5, x0, head\n"),
+            "a round from here may come back without a wait",
+        ),
+        (
+            loop("lw x5, 0(x15)\nbeq x5, x0, away\n") + "away: j away\n",
+            "from here on no wait is reached",
+        ),
         (loop("lw x5, 0(x15)\nbeq x5, x0, away\n") + "away: ecall\n", "it traps"),
         (loop("in: lw x5, 0(x15)\nbeq x5, x0, in\n"), "nothing bounds this loop"),
         (loop("lw x5, 0(x15)\njr x5\n"), "a jump to an address that isn't known"),
         (loop(before="lw x5, 0(x15)\njr x5\n"), "a jump to an address that isn't known"),
-        (loop("jal x5, sub\n") + "sub: j sub\n", "a call that doesn't keep its return address in x1"),
+        (
+            loop("jal x5, sub\n") + "sub: j sub\n",
+            "a call that doesn't keep its return address in x1",
+        ),
         (loop("jal x1, sub\n") + "sub: ret\n", "no function with a size"),
         ("here: j here\n", "no WU is reached from the entry"),
         (f"{TIME}here: wu x11, x10\nend: j end\n", "no WU is reached again and again"),
@@ -222,7 +237,10 @@ def test_unknown(case: Case, source: str, why: str) -> None:
 
 
 def test_a_thread_that_is_not_hard(case: Case) -> None:
-    assert case(loop(), more="[[thread]]\nid = 1\nmode = 'soft'\nentry = 0\npermit = true\n").status == 0
+    assert (
+        case(loop(), more="[[thread]]\nid = 1\nmode = 'soft'\nentry = 0\npermit = true\n").status
+        == 0
+    )
     permit = loop() + ".org 0x400\nother: csrw slots, x5\nj other\n"
     found = case(permit, more="[[thread]]\nid = 1\nmode = 'soft'\nentry = 0x400\npermit = true\n")
     assert found.status == 2 and "writes slots, modes or regions" in found.text, found
@@ -242,14 +260,21 @@ def test_a_run_that_is_late_is_over(case: Case) -> None:
 
 
 def test_a_run_with_a_trap_is_unknown(case: Case) -> None:
-    found = case(loop("lh x16, 1(x15)\n", HANDLER) + ".org 0x400\nhand: j hand\n", words=("--runs", 3000))
+    found = case(
+        loop("lh x16, 1(x15)\n", HANDLER) + ".org 0x400\nhand: j hand\n", words=("--runs", 3000)
+    )
     assert found.status == 2 and "a trap in cycle" in found.text, found
 
 
 def test_json_and_junit(case: Case) -> None:
     found = case(loop(), words=("--json", "--junit", case.folder / "it.xml"))
     (result,) = json.loads(found.text)["results"]
-    assert (result["verdict"], result["bound"], result["budget"], result["slack"]) == ("holds", 10, 200, 190)
+    assert (result["verdict"], result["bound"], result["budget"], result["slack"]) == (
+        "holds",
+        10,
+        200,
+        190,
+    )
     assert '<property name="bound" value="10"' in (case.folder / "it.xml").read_text()
 
 

@@ -1,4 +1,5 @@
-"""`fp_budget --period` on compiled programs: waits in functions, copies that the compiler makes, and runs."""
+"""`fp_budget --period` on compiled programs: waits in functions, copies that the compiler makes,
+and runs."""
 from __future__ import annotations
 
 import os
@@ -41,7 +42,9 @@ BEGIN = "void main0(void)\n{\n    next = fp_get_time();\n"
 class Built:
     """A program in C with its setup."""
 
-    def __init__(self, tool: Tool, folder: Path, source: str, level: str = "-O2", more: str = "") -> None:
+    def __init__(
+        self, tool: Tool, folder: Path, source: str, level: str = "-O2", more: str = ""
+    ) -> None:
         self.tool, self.folder = tool, folder
         if shutil.which("riscv64-unknown-elf-gcc") is None or shutil.which("make") is None:
             pytest.skip("no compiler: gcc-riscv64-unknown-elf and make")
@@ -54,16 +57,37 @@ class Built:
         if more:
             (folder / "t0_more.s").write_text(more)
             objects += " t0_more.o"
-        words = ["make", "-s", "-C", str(folder), "PROGRAM=own", f"OBJECTS={objects}", f"OPTIONS={level} -g"]
-        made = subprocess.run([*words, f"FP_LAYOUT={TOOLS}/fp_layout"], capture_output=True, text=True, check=False)
+        words = [
+            "make",
+            "-s",
+            "-C",
+            str(folder),
+            "PROGRAM=own",
+            f"OBJECTS={objects}",
+            f"OPTIONS={level} -g",
+        ]
+        made = subprocess.run(
+            [*words, f"FP_LAYOUT={TOOLS}/fp_layout"], capture_output=True, text=True, check=False
+        )
         assert made.returncode == 0, made.stderr
-        image = subprocess.run([os.environ["FLEXPRET"], "elf", folder / "own.elf"], capture_output=True, check=True)
+        image = subprocess.run(
+            [os.environ["FLEXPRET"], "elf", folder / "own.elf"], capture_output=True, check=True
+        )
         (folder / "own.fpx").write_bytes(image.stdout)
         (folder / "own.toml").write_text(SETUP.format(folder=folder))
 
     def period(self, *words: object) -> tuple[int, str]:
         more = words or ("--ns", 20000, "--runs", 300000)
-        ran = self.tool("fp_budget", self.folder / "own.elf", "--setup", self.folder / "own.toml", "--thread", 0, "--period", *more)
+        ran = self.tool(
+            "fp_budget",
+            self.folder / "own.elf",
+            "--setup",
+            self.folder / "own.toml",
+            "--thread",
+            0,
+            "--period",
+            *more,
+        )
         return ran.returncode, ran.stdout + ran.stderr
 
 
@@ -103,9 +127,18 @@ def test_copies_of_a_wait_that_the_compiler_makes(tool: Tool, tmp_path: Path) ->
     ("body", "why"),
     [
         ("for (;;) { tick();\n FP_PORT = work(1);\n tick(); }", "another wait, behind that at"),
-        ("for (;;) { tick(); fp_delay_until(next + 100); }", "a DU on the path takes as long as its moment says"),
-        ("for (;;) { next += P; if (FP_PORT & 1) fp_wait_until(next);\n else fp_wait_until(next + 40); }", "ns behind the one before"),
-        ("void (*call)(void) = FP_PORT ? tick : 0; for (;;) { tick(); call(); }", "a jump to an address that isn't known"),
+        (
+            "for (;;) { tick(); fp_delay_until(next + 100); }",
+            "a DU on the path takes as long as its moment says",
+        ),
+        (
+            "for (;;) { next += P; if (FP_PORT & 1) fp_wait_until(next);\n else fp_wait_until(next + 40); }",
+            "ns behind the one before",
+        ),
+        (
+            "void (*call)(void) = FP_PORT ? tick : 0; for (;;) { tick(); call(); }",
+            "a jump to an address that isn't known",
+        ),
     ],
 )
 def test_unknown(tool: Tool, tmp_path: Path, body: str, why: str) -> None:
@@ -114,7 +147,8 @@ def test_unknown(tool: Tool, tmp_path: Path, body: str, why: str) -> None:
 
 
 def test_a_fault_that_resumes_in_the_loop(tool: Tool, tmp_path: Path) -> None:
-    """The handler recovers and jumps to the loop's head: the period with it is longer than the bound."""
+    """The handler recovers and jumps to the loop's head: the period with it is longer than the
+    bound."""
     source = f"""void on_late(void);
 __attribute__((noinline)) void recover(void) {{ table[0] = work(table[1]); }}
 void main0(void)
@@ -146,6 +180,10 @@ def test_a_store_by_a_pointer_to_the_moment(tool: Tool, tmp_path: Path) -> None:
 def test_a_period_by_its_function(tool: Tool, tmp_path: Path) -> None:
     built = Built(tool, tmp_path, f"{BEGIN}for (;;) {{ FP_PORT = work(FP_PORT); tick(); }}\n}}\n")
     status, text = built.period("--function", "main0")
-    assert status == 0 and text.startswith("bound    T0 period of main0: ") and "the moments are 20000 ns apart" in text
+    assert (
+        status == 0
+        and text.startswith("bound    T0 period of main0: ")
+        and "the moments are 20000 ns apart" in text
+    )
     status, text = built.period("--function", "work")
     assert status == 2 and "no loop of work waits" in text
