@@ -120,6 +120,25 @@ class Code:
             ] * (depth > 0)
             self.random.choice(kinds)()
 
+    def nest(self, depth: int) -> None:
+        """Loops around a wait, each with work around what is inside; one may be left early."""
+        if depth == 0:
+            self.work(1)
+            self.wait()
+            self.work(1)
+            return
+        register, head, out = f"x{25 + depth}", self.label(), self.label()
+        rounds = self.random.randrange(2, 6)
+        self.add(f"addi {register}, x0, {rounds}", f"{head}: addi x0, x0, 0")
+        self.work(1)
+        self.nest(depth - 1)
+        if self.random.random() < 0.5:
+            self.add("lw x16, 0(x15)", "andi x16, x16, 4", f"bne x16, x0, {out}")
+        self.work(1)
+        self.add(f"addi {register}, {register}, -1", f"bne {register}, x0, {head}")
+        self.add(f"{out}: addi x0, x0, 0")
+        self.work(1)
+
     def wait(self) -> None:
         """The next moment, with its carry, and the wait for it."""
         self.add("add x10, x10, x12", "sltu x13, x10, x12", "add x11, x11, x13")
@@ -140,7 +159,7 @@ def assembler(random: Random, ns: int) -> str:
         "add x11, x11, x13",
         "head: addi x0, x0, 0",
     )
-    shape = random.randrange(5)
+    shape = random.randrange(6)
     if shape in (0, 2):
         code.work(2)
     if shape < 3:
@@ -165,6 +184,8 @@ def assembler(random: Random, ns: int) -> str:
         code.work(1)
         code.add("addi x26, x26, -1", "bne x26, x0, inner")
         code.work(1)
+    if shape == 5:
+        code.nest(random.randrange(1, 4))
     code.add("j head")
     return "\n".join(code.lines) + "\n"
 

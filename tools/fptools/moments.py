@@ -15,6 +15,7 @@ from fptools.moment_values import (
 )  # fmt: skip
 from fptools.setup import DATA_START, LARGE, Setup
 from fptools.unfolded import Place, Step, Unfolded, is_wait
+from fptools.values import written_by
 from fptools.words import OPCODE_BRANCH, OPCODE_LOAD, OPCODE_STORE, OPCODE_TIMING, Flow, Word
 
 GET_LOW, GET_HIGH = 0, 1  # funct3 of GT and GTH
@@ -109,7 +110,7 @@ class Moments:
             step = self.unfolded.steps[place]
             if ends_at_waits and is_wait(step.word):
                 continue
-            state = self._after(place, step, before[place], before)
+            state = self._after(place, step, before[place])
             for to in step.ends:
                 is_joined = to in starts or self.unfolded.graph.in_degree(to) > 1
                 new = _joined(to, before[to], state) if is_joined and to in before else state
@@ -118,9 +119,7 @@ class Moments:
                     ahead.append(to)
         return before
 
-    def _after(
-        self, place: Place, step: Step, state: State, before: Mapping[Place, State]
-    ) -> State:
+    def _after(self, place: Place, step: Step, state: State) -> State:
         """What is known behind a word."""
         word = step.word
         if step.passes_over:
@@ -128,7 +127,7 @@ class Moments:
         if word.flow in (Flow.CALL, Flow.JUMP):
             return state.with_register(word.rd, number(word.next))
         if word.opcode == OPCODE_STORE:
-            return self._stored(place, word, state, before)
+            return self._stored(place, word, state)
         if word.opcode == OPCODE_LOAD:
             return self._loaded(place, word, state)
         if word.opcode == OPCODE_TIMING and word.funct3 == GET_LOW:
@@ -193,9 +192,7 @@ class Moments:
             state = replace(state, memory={**state.memory, at: Kept(fresh, False)})
         return state.with_register(word.rd, fresh if kept is None else kept.value)
 
-    def _stored(
-        self, place: Place, word: Word, state: State, before: Mapping[Place, State]
-    ) -> State:
+    def _stored(self, place: Place, word: Word, state: State) -> State:
         at, value = self._address(word, state), state.registers[word.rs2]
         if at is None:
             return replace(state, memory={to: it for to, it in state.memory.items() if it.is_saved})
@@ -203,17 +200,21 @@ class Moments:
             return state
         memory = {to: it for to, it in state.memory.items() if to != at & ~3}
         if word.funct3 == WORD_SIZE and at % 4 == 0:
-            memory[at] = Kept(value, self._saves(place, word, value, before))
+            memory[at] = Kept(value, self._saves(place, word))
         return replace(state, memory=memory)
 
-    def _saves(self, place: Place, word: Word, value: Known, before: Mapping[Place, State]) -> bool:
-        """Whether a store keeps a register for the caller: on the stack, with its value at the
-        function's begin."""
+    def _saves(self, place: Place, word: Word) -> bool:
+        """Whether a store keeps a register for the caller: on the stack, in the straight code at the
+        function's begin, which doesn't change the register before."""
         if not place.sites or word.rs1 != STACK_POINTER or word.rs2 not in SAVED:
             return False
-        target = self.unfolded.code.word(place.sites[-1]).target or 0
-        first = before.get(Place(place.sites, target))
-        return first is not None and first.registers[word.rs2] == value
+        code = self.unfolded.code
+        first = code.word(place.sites[-1]).target or 0
+        before = [code.word(pc) for pc in range(first, place.pc, 4)]
+        is_straight = all(it.flow is Flow.NEXT for it in before)
+        return (
+            first <= place.pc and is_straight and all(written_by(it) != word.rs2 for it in before)
+        )
 
 
 def _joined(place: Place, one: State, other: State) -> State:
