@@ -11,7 +11,7 @@ from fptools.budgets import Asked, Judge, Unknown
 from fptools.image import write_image
 from fptools.loops import StatedLoop
 from fptools.names import MOST_LOOPS, Names, toml_of
-from fptools.paths import Node, Paths
+from fptools.wait_paths import Node, Paths
 from fptools.placed import Placed, PlacedLoop, Placer
 from fptools.section import Exit, Section, walk, walk_all
 from fptools.unfolded import NotUnfolded, Place, Unfolded, is_wait

@@ -21,7 +21,7 @@ from fptools.kept import Called
 from fptools.moment_values import Absolute, Behind, Moment, Unclear
 from fptools.moments import Moments
 from fptools.names import Names
-from fptools.paths import Paths
+from fptools.wait_paths import Paths
 from fptools.period_bounds import LOST, MISSING, REGISTER, TRAPS, PathBounds
 from fptools.section import Section
 from fptools.thread import ThreadCode

@@ -12,7 +12,7 @@ from dataclasses import dataclass, field
 from typing import Mapping
 
 from fptools import require
-from fptools.paths import Node, Paths
+from fptools.wait_paths import Node, Paths
 from fptools.section import walk
 from fptools.setup import LARGE
 from fptools.unfolded import NotUnfolded, Place, is_wait
