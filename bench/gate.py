@@ -139,6 +139,8 @@ def parts(jobs: int) -> list[Part]:
         pytest('tools', 'tools/tests', jobs, ['elftools', 'jsonschema', 'networkx']),
         pytest('model', 'model', 1),
         Part('bench/fuzz.py', ['{python}', 'bench/fuzz.py', '--count', '400', '--jobs', '1']),
+        Part('bench/periods.py', ['{python}', 'bench/periods.py', '--count', '60', '--seed', '2'],
+             modules=['elftools', 'jsonschema', 'networkx'], commands=['make', 'riscv64-unknown-elf-gcc']),
         Part('bench/views_fuzz.py', ['{python}', 'bench/views_fuzz.py', '--seed', '1', '--count', '4']),
         Part('bench/refused_memory.py', ['{python}', 'bench/refused_memory.py', '--built'], commands=['cc']),
         Part('bench/edge.py', ['{python}', 'bench/edge.py']),

@@ -8,6 +8,7 @@ FLEXPRET names the program, if it isn't the built one of this repository."""
 import argparse
 import os
 import shutil
+import subprocess
 import sys
 from itertools import product
 from pathlib import Path
@@ -54,6 +55,8 @@ def make(folder: Path, most: int) -> None:
     shutil.copy(program, folder / "flexpret")
     for file in (*HERE.glob("*.sh"), HERE / "slack.gp", HERE.parent / "sum.fpx"):
         shutil.copy(file, folder)
+    words = [program, "asm", HERE / "period.s"]
+    (folder / "period.fpx").write_bytes(subprocess.run(words, stdout=subprocess.PIPE, check=True).stdout)
     frames = ["".join(frame) for frame in product("ST", repeat=8) if "T" in frame]
     with (folder / "jobs.tsv").open("w", encoding="ascii") as jobs:
         for period, frame in product(range(1, most + 1), frames):
@@ -75,5 +78,5 @@ if __name__ == "__main__":
     asked = parser.parse_args()
     try:
         make(asked.folder, asked.most)
-    except OSError as fault:
+    except (OSError, subprocess.CalledProcessError) as fault:
         sys.exit(f"make.py: {fault}")

@@ -2,7 +2,7 @@
 set terminal svg size 900,600
 set output 'slack.svg'
 set datafile separator '\t'
-set xlabel 'budget of a visit, in cycles (2,000 ns)'
+set xlabel 'budget of a period, in cycles (2,000 ns)'
 set ylabel 'slack: budget less bound, in cycles'
 set logscale x 2
 set grid

@@ -1,6 +1,7 @@
 #!/usr/bin/env python3
 """table.py FOLDER: joins the setups of a sweep with their results to FOLDER/table.tsv, and says how many
-are missing. Slack is the budget less the bound.
+are missing. The bound is that of the loop's period, from the moment of a wait to the issue of the next one; slack is
+the budget less the bound.
 
 Setups and bounds are read by the package fptools of tools/."""
 from __future__ import annotations

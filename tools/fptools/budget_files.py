@@ -43,8 +43,17 @@ class Verdict(IntEnum):
 
 
 @dataclass(frozen=True)
+class PeriodOf:
+    """Loops that wait: those of a function or around an address, or all of a thread where neither is given."""
+
+    loop: int | str | None
+    ns: int | None  # from the moment of a wait to that of the next one; None if only the bound is wanted
+
+
+@dataclass(frozen=True)
 class Budget:
-    """A section and the most cycles that it may take; None if only its bound is wanted."""
+    """A section and the most cycles that it may take; None if only its bound is wanted. Or the period of a loop that
+    waits: `start` and `end` are 0 then."""
 
     name: str
     thread: int
@@ -54,6 +63,7 @@ class Budget:
     calls: bool = False
     exits: tuple[int | str, ...] = ()
     assume: frozenset[Assumption] = frozenset()
+    period: PeriodOf | None = None
 
     def __str__(self) -> str:
         return f"T{self.thread} {self.name}"
@@ -89,6 +99,7 @@ class Result:
     longest: int | None = None  # the cycles of the longest of them
     stack: Stack | None = None  # of the thread; None where the budget is unknown for another reason
     path: PathFacts | None = None  # that costs the bound; None where it isn't asked for, or there is no bound
+    waits: tuple[int, ...] = ()  # of a period: the addresses of its loop's waits
 
     @property
     def note(self) -> str | None:
@@ -127,6 +138,10 @@ def fault_text(fault: Exception, budgets: Path | None) -> str:
 
 def _budget(table: Mapping[str, Any], period: int) -> Budget:
     cycles = table["cycles"] if "cycles" in table else table["ns"] // period
+    if "period" in table:
+        assume = frozenset(map(Assumption, table.get("assume", [])))
+        of = PeriodOf(table["period"], table["ns"])
+        return Budget(table["name"], table["thread"], 0, 0, cycles, True, (), assume, of)
     return Budget(
         table["name"], table["thread"], table["from"], table["to"], cycles,
         table.get("calls", False), tuple(table.get("exits", [])), frozenset(map(Assumption, table.get("assume", []))),

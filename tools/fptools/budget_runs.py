@@ -8,6 +8,7 @@ from fptools.budget_files import Result, Verdict
 from fptools.elf import Program, ProgramError
 from fptools.observed import Kind, Observation, doubt_of, question_of, run_and_observe
 from fptools.observed_text import Text
+from fptools.period_runs import PeriodRuns
 from fptools.program import Flexpret
 from fptools.section import walk_all
 from fptools.setup import LoopTable, Setup
@@ -44,8 +45,9 @@ class Runs:
 
     def observed(self, results: Sequence[Result]) -> list[Compared]:
         """The results with the runs of their threads."""
-        watched = [self._watched(it) for it in results]
-        found = [Compared(it) for it in results]
+        watched = [None if it.waits else self._watched(it) for it in results]
+        periods = PeriodRuns(self.flexpret, self.setup, self.cycles, self.name).compared(results)
+        found = [Compared(periods.get(at, it)) for at, it in enumerate(results)]
         for thread in sorted({it.budget.thread for it in results}):
             own = [
                 at for at, it in enumerate(results) if it.budget.thread == thread and watched[at] is not None

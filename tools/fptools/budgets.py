@@ -7,7 +7,7 @@ from functools import cached_property
 from pathlib import Path
 from typing import Mapping
 
-from fptools.answers import Bound, NoAnswer, read_answer
+from fptools.answers import Bound, NoAnswer, Refusal, read_answer
 from fptools.budget_files import Assumption, Budget, LoopFact, Result, Verdict
 from fptools.elf import Program, ProgramError, other_word
 from fptools.loops import StatedLoop, state_loops
@@ -175,7 +175,7 @@ class Judge:
     def look_at_code(self, asked: Asked) -> None:
         """The section and its functions are only left as intended."""
         self._look_at(asked)
-        self._look_at_routines(asked.parts[1:])
+        self.look_at_functions(asked.parts[1:])
 
     def _answered(self, answer: Answer) -> int:
         """The number that the program writes. The message of a refusal has its place and a remedy."""
@@ -186,10 +186,13 @@ class Judge:
             raise Unknown(text) from None
         if isinstance(found, Bound):
             return found.cycles
-        at = found.address
+        raise Unknown(self.refusal(found, text, found.address))
+
+    def refusal(self, found: Refusal, text: str, at: int | None) -> str:
+        """The message of a refusal of the program, with its place in the code and a remedy."""
         place = f", {self.where(at)}" if at is not None and self.program.path else ""
         helps = LONG_CALL if at is not None and self._is_long_call(at) else HELP.get(found.name)
-        raise Unknown(text + place + (f": {helps}" if helps else ""))
+        return text + place + (f": {helps}" if helps else "")
 
     def _is_long_call(self, pc: int) -> bool:
         """Whether a word is the second of a call by AUIPC and JALR."""
@@ -223,7 +226,7 @@ class Judge:
         if not any(way.exit is Exit.END or way.to in exits for way in section.ways_out):
             raise Unknown("no path leads to the section's end")
 
-    def _look_at_routines(self, routines: list[Section]) -> None:
+    def look_at_functions(self, routines: list[Section]) -> None:
         """A called function is only left by `ret`, and has at least one."""
         for way in (it for routine in routines for it in routine.ways_out):
             if way.exit is not Exit.RETURN:
@@ -314,13 +317,21 @@ class Judge:
         own = (it for it in self.setup.loops if it.head == loop.head and loop.last <= it.last < part.end)
         return next((it.bound for it in own), None)
 
+    def look_around(self, asked: Asked) -> None:
+        """The thread may fetch the words, nobody writes slots, modes or regions, the sources are those of the build, and the
+        stack fits."""
+        self._look_at_fetches(asked)
+        self._look_at_writes(asked)
+        self._look_at_sources(asked)
+        self._look_at_stack(asked)
+
     def _look_at_loops(self, asked: Asked) -> None:
         """Each loop's table is at least what the code counts, or the sources state where it doesn't."""
         for part, stated in self.stated_loops(asked):
             bound = self.table_of(part, stated.loop)
-            self._look_at_loop(asked, stated, bound or 0)
+            self.look_at_loop(asked, stated, bound or 0)
 
-    def _look_at_loop(self, asked: Asked, stated: StatedLoop, bound: int) -> None:
+    def look_at_loop(self, asked: Asked, stated: StatedLoop, bound: int) -> None:
         where, loop = self.where(stated.loop.head), stated.loop
         is_less = stated.counted is not None and stated.rounds is not None and stated.rounds < stated.counted
         if is_less:

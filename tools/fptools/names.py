@@ -8,7 +8,7 @@ from dataclasses import dataclass, replace
 from pathlib import Path
 from typing import Any, Mapping
 
-from fptools.budget_files import Assumption, Budget, Result, Verdict
+from fptools.budget_files import Assumption, Budget, LoopFact, Result, Verdict
 from fptools.budgets import Asked, Judge, Unknown
 from fptools.elf import Function, Program, ProgramError
 from fptools.image import write_image
@@ -102,6 +102,11 @@ class Names:
             raise Unknown(f"{where}: nothing bounds this loop ({stated.doubt}): {stated.advice}")
         judge.assume_table(asked, stated)
         return table
+
+    def fact(self, judge: Judge, asked: Asked, part: Section, stated: StatedLoop) -> LoopFact:
+        """How often a loop goes back, with where that is known from. Raises Unknown."""
+        judge.look_at_loop(asked, stated, self._bound_of(judge, asked, part, stated))
+        return asked.loops[-1]
 
     def _named(self, name: str) -> Function:
         start = self.program.address(name)

@@ -59,13 +59,14 @@ def _add_numbers(case: ElementTree.Element, result: Result) -> None:
 
 def as_json(results: list[Result], fault: str | None = None) -> str:
     """The results as a JSON document: `bound`, `budget` and `slack` are cycles, `ns` is the bound's time."""
-    document: dict[str, Any] = {"results": [_fields(result) for result in results]}
+    document: dict[str, Any] = {"results": [data_of(result) for result in results]}
     if fault is not None:
         document["error"] = fault
     return json.dumps(document, indent=2, ensure_ascii=False)
 
 
-def _fields(result: Result) -> dict[str, Any]:
+def data_of(result: Result) -> dict[str, Any]:
+    """A result as a table of a JSON document."""
     budget = result.budget
     return {
         "name": budget.name,

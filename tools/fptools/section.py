@@ -4,7 +4,7 @@ from __future__ import annotations
 from collections import defaultdict
 from dataclasses import dataclass, field, replace
 from enum import Enum
-from typing import Collection, Mapping, Protocol
+from typing import Collection, Hashable, Mapping, Protocol
 
 from fptools import require
 from fptools.words import RETURN, Flow, Word
@@ -173,23 +173,23 @@ def _loops(section: Section) -> list[Loop]:
 
 
 class Dominators:
-    """Which words each path from the first word to another passes."""
+    """Which words each path from the first word to another passes. Nodes of a graph may be of any kind."""
 
-    def __init__(self, graph: networkx.DiGraph, start: int) -> None:
+    def __init__(self, graph: networkx.DiGraph, start: Hashable) -> None:
         tree = networkx.DiGraph()
         tree.add_node(start)
         for word, above in networkx.immediate_dominators(graph, start).items():
             if word != start:
                 tree.add_edge(above, word)
-        self.begins: dict[int, int] = {}
-        self.finishes: dict[int, int] = {}
+        self.begins: dict[Hashable, int] = {}
+        self.finishes: dict[Hashable, int] = {}
         for at, (_, word, kind) in enumerate(networkx.dfs_labeled_edges(tree, start)):
             if kind == "forward":
                 self.begins[word] = at
             elif kind == "reverse":
                 self.finishes[word] = at
 
-    def has(self, above: int, below: int) -> bool:
+    def has(self, above: Hashable, below: Hashable) -> bool:
         """Whether each path to `below` passes `above`, which it does to itself."""
         return self.begins[above] <= self.begins[below] and self.finishes[below] <= self.finishes[above]
 

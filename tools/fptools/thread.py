@@ -202,14 +202,34 @@ class ThreadCode:
     def comes_back(self, section: Section, begin: int) -> Iterator[WayBack]:
         """Why a trap in a section, or in the functions that it calls, may be followed by a word of theirs. A handler that
         leads to where the section begins is the begin of another execution."""
-        for word in self.sets_mtvec:
-            if self._handler(word) is None:
-                yield WayBack(word, "sets mtvec to an address that isn't known here, so a trap may come back")
+        yield from self._unknown_handlers()
         for handler in self.handlers(begin):
             own = reach(self.code, [handler], [begin], into_calls=False)
             called = reach(self.code, [handler], [begin])
             is_meant = handler != 0 or bool(self.sets_mtvec) or self.expiry is not None
-            yield from _ways_back(handler, own, called, section, is_meant)
+            yield from _ways_back(handler, own, called, is_meant)
+            for word in called.words.values():
+                if section.holds(word.pc) or word.pc == section.end:
+                    yield WayBack(word, f"the trap handler at {handler:#x} leads here")
+
+    def _unknown_handlers(self) -> Iterator[WayBack]:
+        for word in self.sets_mtvec:
+            if self._handler(word) is None:
+                yield WayBack(word, "sets mtvec to an address that isn't known here, so a trap may come back")
+
+    def comes_back_to(self, words: Collection[int]) -> Iterator[WayBack]:
+        """Why a trap may be followed by one of some words, by their addresses, wherever it is taken."""
+        yield from self._unknown_handlers()
+        for handler in sorted({it for pc in words for it in self.handlers(pc)}):
+            own, called = reach(self.code, [handler], into_calls=False), reach(self.code, [handler])
+            is_meant = handler != 0 or bool(self.sets_mtvec) or self.expiry is not None
+            yield from _ways_back(handler, own, called, is_meant)
+            entered = sorted(called.words.keys() & set(words))
+            if entered:
+                # Where nobody sets mtvec, a trap of a thread that begins at 0 is a fault, by which it begins again.
+                is_restart = not is_meant and self.entry == handler
+                how = f"the trap handler at {handler:#x} leads here"
+                yield WayBack(called.words[entered[0]], how, not is_restart)
 
 
 @dataclass(frozen=True)
@@ -222,15 +242,11 @@ class WayBack:
     is_meant: bool = True
 
 
-def _ways_back(
-    handler: int, own: Reach, called: Reach, section: Section, is_meant: bool
-) -> Iterator[WayBack]:
-    """How a handler goes on with the code that trapped, by its own words and those of what it calls."""
+def _ways_back(handler: int, own: Reach, called: Reach, is_meant: bool) -> Iterator[WayBack]:
+    """How a handler may go on elsewhere, by its own words and those of what it calls."""
     for word in called.words.values():
         if word.bits == MRET:
             yield WayBack(word, "MRET goes on where a trap was")
-        if section.holds(word.pc) or word.pc == section.end:
-            yield WayBack(word, f"the trap handler at {handler:#x} leads here")
     for word in called.pointers:
         yield WayBack(word, f"the trap handler at {handler:#x} jumps to an address that isn't known here")
     for word in own.words.values():

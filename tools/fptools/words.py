@@ -172,3 +172,8 @@ class Word:
     def immediate(self) -> int:
         """The number of an instruction with one of twelve bits."""
         return self.field(20, 12) - (self.field(31, 1) << 12)
+
+    @property
+    def store_offset(self) -> int:
+        """The number of a store: of its upper bits and of those where others have rd."""
+        return (self.field(25, 7) << 5 | self.rd) - (self.field(31, 1) << 12)

@@ -9,7 +9,14 @@ from pathlib import Path
 
 import pytest
 from conftest import TOP
+from fptools.budget_files import Budget, PeriodOf
+from fptools.budgets import Judge
+from fptools.elf import Program
+from fptools.image import read_image
 from fptools.lint import refusals
+from fptools.period_runs import PeriodRuns
+from fptools.periods import results_of
+from fptools.program import Flexpret
 from fptools.setup import read_setup
 
 
@@ -131,3 +138,27 @@ def test_the_tasks_of_an_array_do_each_job_once(tmp_path: Path, numbers: range) 
 @pytest.mark.parametrize("numbers", [[0, 1, 5], [0, 6, 7, 8], [1, 2, 4]])
 def test_tasks_whose_numbers_rise_by_other_steps_are_refused(tmp_path: Path, numbers: list[int]) -> None:
     assert 1 in array(tmp_path, numbers)[1]
+
+
+FRAMES = ("TTTTTTTT", "TSSSTSSS", "TTSSSSSS", "SSTSTTSS")
+
+
+@pytest.mark.parametrize("clock", [7, 13, 27, 40])
+def test_a_frame_with_slack_is_in_time(tmp_path: Path, flexpret: str, clock: int) -> None:
+    """The bound of period.s is the one of fp_budget. No wait of a run is late where it fits, and one is where it doesn't."""
+    assert made(tmp_path, "work", str(clock), program=flexpret).returncode == 0
+    folder = tmp_path / "work"
+    for frame in FRAMES:
+        name = f"{clock:02}-{frame}"
+        subprocess.run([folder / "job.sh", name], check=True)
+        bound = int((folder / f"results/{name}.txt").read_text().split()[1])
+        setup = read_setup(folder / f"setups/{name}.toml")
+        setup.values["image"] = str(folder / "sum.fpx")
+        judge = Judge(Flexpret(flexpret), setup, read_image(setup.image), Program())
+        (result,) = results_of(judge, Budget("it", 0, 0, 0, None, period=PeriodOf(None, None)))
+        assert result.bound == bound, frame
+        own = tmp_path / "own.toml"
+        own.write_text((folder / f"setups/{name}.toml").read_text().replace("sum.fpx", str(setup.image)))
+        runs = PeriodRuns(Flexpret(flexpret), read_setup(own), 40 * bound, "test")
+        text = runs.compared([result])[0].text
+        assert ("no wait is late" in text) == (bound <= 2000 // clock), (frame, text)

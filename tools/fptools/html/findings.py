@@ -15,6 +15,7 @@ from fptools.html.issues import Span, Spot, read_issues, spots_of
 from fptools.html.timeline import MOST_WINDOW, Painter, Timeline
 from fptools.image import read_image
 from fptools.observed import Observation
+from fptools.periods import judged
 from fptools.program import Flexpret
 from fptools.setup import Setup
 from fptools.shown import Columns
@@ -97,7 +98,7 @@ class Question:
             self.flexpret, self.setup, self.image, self.program, self.sources, has_paths=True
         )
         runs = Runs(self.flexpret, self.setup, self.image, self.program, self.cycles, name=NAME)
-        compared = runs.observed([judge.judge(it) for it in budgets])
+        compared = runs.observed([judged(judge, it) for it in budgets])
         seen = observations_of(compared)
         found = self._located(compared)
         self._columns.disassembler.learn(self.image)
