@@ -143,6 +143,8 @@ def parts(jobs: int) -> list[Part]:
              modules=['elftools', 'jsonschema', 'networkx'], commands=['make', 'riscv64-unknown-elf-gcc']),
         Part('bench/views_fuzz.py', ['{python}', 'bench/views_fuzz.py', '--seed', '1', '--count', '4']),
         Part('bench/refused_memory.py', ['{python}', 'bench/refused_memory.py', '--built'], commands=['cc']),
+        Part('bench/stacks.py', ['{python}', 'bench/stacks.py', '1', '60'], modules=['elftools', 'jsonschema', 'networkx', 'pytest'],
+             commands=['riscv64-unknown-elf-gcc']),
         Part('bench/edge.py', ['{python}', 'bench/edge.py']),
         Part('bench/edits.py', ['{python}', 'bench/edits.py', '--applies'], programs=False),
         Part('bench/examples.sh', ['bench/examples.sh'], programs=False),

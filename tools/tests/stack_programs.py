@@ -76,13 +76,19 @@ class Built:
 
 
 def built(
-    flexpret: str, folder: Path, name: str, options: str, compiler: str = "gcc", laid: bool = False
+    flexpret: str,
+    folder: Path,
+    name: str,
+    options: str,
+    compiler: str = "gcc",
+    laid: bool = False,
+    sources: Path = STACK,
 ) -> Built:
     """Compiles the sources of a name, in C or assembler, and links them with the start of thread
     0."""
     (folder / "start.o").write_bytes(start_of(folder, compiler))
     objects = [folder / "start.o"]
-    for source in sorted(STACK.glob(f"{name}.[cs]")):
+    for source in sorted(sources.glob(f"{name}.[cs]")):
         objects.append(compiled(folder, source, f"{options} -I{C}", compiler, laid))
     elf, image, setup = folder / "own.elf", folder / "own.fpx", folder / "own.toml"
     named = " ".join(it.name for it in objects)
