@@ -75,6 +75,7 @@ class Branch:
     name: str
     compared: str
     to: int
+    line: int = field(default=0, compare=False)  # in the assembly
 
 
 @dataclass
@@ -91,6 +92,7 @@ class Block:
     stop: Item | None = None  # a return or a trap
     ends: list[Item] = field(default_factory=list)  # debugger's labels after the last instruction
     has_jump: bool = False  # a jump leads to the successor
+    jump_line: int = 0
     source: SourceLine | None = None
     frame: Frame | None = None
 
@@ -155,8 +157,8 @@ HARMLESS = (
     ".hidden",
 )
 SECTION = (".section", ".text", ".data", ".bss", ".pushsection", ".popsection", ".previous", ".subsection")
-RANGE_END = re.compile(r"\.L(BE|FE|BBE)\d*$")
-"""Labels at the end of a range of instructions."""
+RANGE_END = re.compile(r"\.L(BE|BBE)\d*$")
+"""Labels at the end of a range of instructions. The function's own end stays there."""
 
 SWITCH = ": -fno-jump-tables avoids it for a switch; a computed goto has no bound"
 PARTS = "-fno-reorder-blocks-and-partition keeps it in one section"
@@ -336,11 +338,11 @@ class Reader:
             return
         self.is_ended = True
         if made.flow is Flow.BRANCH:
-            block.branch = Branch(it.name, made.compared, -1)
+            block.branch = Branch(it.name, made.compared, -1, it.line)
             self.branches[len(self.blocks) - 1] = it.line, made.target
         elif made.flow is Flow.JUMP:
             self.jumps[len(self.blocks) - 1] = it.line, made.target
-            block.has_jump = True
+            block.has_jump, block.jump_line = True, it.line
         else:
             block.stop = Item(Part.CODE, it.text, it.line, size=made.size)
 
