@@ -44,7 +44,8 @@ ALL_COMMANDS = (*COMMANDS, "disasm")
 ADDED = {"asm": ("-o", "--listing", "--map"), "elf": ("-o",), "bound": ("--elf", "--map"), "calls": ("--elf", "--map")}
 """The options that the script adds to a command."""
 
-BEFORE = ("--quiet", "--unproved", "--use", "--version", "--help")
+BEFORE_VIEW = ("--quiet", "--unproved", "--use", "--version", "--help")
+BEFORE = ("--quiet", "--model", *BEFORE_VIEW[1:])
 """The options of the scripts themselves, which are written before the command."""
 
 VALUES = {"thread": "I", "cycles": "N", "from": "A", "to": "B", "trace": "FILE", "routines": "FILE"}
@@ -163,11 +164,11 @@ def unknown_option(name: str, word: str, option: str) -> str:
     return f"--{option}: {known}" + (f"; is {near[0]} meant?" if near else "")
 
 
-def unknown_option_before(word: str) -> str:
+def unknown_option_before(word: str, known: Sequence[str] = BEFORE) -> str:
     """The message about an argument before the command that begins with `-` and is no option of the script."""
     option = word.partition("=")[0]
-    near = difflib.get_close_matches(option, BEFORE, 1)
-    return f"{option}: no such option before the command; these are {listed(BEFORE)}" + (f"; is {near[0]} meant?" if near else "")
+    near = difflib.get_close_matches(option, known, 1)
+    return f"{option}: no such option before the command; these are {listed(known)}" + (f"; is {near[0]} meant?" if near else "")
 
 
 def listed(names: Sequence[str]) -> str:

@@ -49,6 +49,10 @@ TRIED = {"flexpret_cli": ["asm", "data/loads.s"], "flexpret_view": ["--help"]}
 """The arguments of the call by which `rt run` tries a program at the end of its build."""
 
 
+UNPROVED = {"flexpret_cli": "--model", "flexpret_view": "--unproved"}
+"""The option of each script by which it answers without a build."""
+
+
 class NotBuilt(Exception):
     """The reason why there is no program, in one line."""
 
@@ -292,7 +296,7 @@ def first_line(checkout: Checkout, plan: Plan) -> str:
     """The first message of a build."""
     return (
         f"the program isn't built yet: {len(plan.below)} crates are proved first, in about {minutes(plan.left())};"
-        " for an answer now: --unproved, or python3 -m model"
+        f" for an answer now, without a proof: {UNPROVED[checkout.crate]}"
     )
 
 

@@ -53,7 +53,9 @@ exit "$RT_STATUS"
 
 NOT_BUILT = 125
 CRATES = "low:\nbeside:\nmiddle: low beside arrayvec\nflexpret_cli: middle\nflexpret_view: middle\nother: low\n"
-NO_OPTION = "no such option before the command; these are --quiet, --unproved, --use, --version and --help"
+NO_OPTION_OF_VIEW = "no such option before the command; these are --quiet, --unproved, --use, --version and --help"
+NO_OPTION = NO_OPTION_OF_VIEW.replace("--quiet,", "--quiet, --model,")
+UNPROVED = {"flexpret": "--model", "flexpret-view": "--unproved"}
 SELFRUN = ("selfrun", "1")
 TURNS = ("turns", "x.toml", "--from", "0", "--to", "9")
 
@@ -134,7 +136,7 @@ def test_a_first_build_says_how_long_it_takes_and_which_crates_are_left(either: 
     estimate = "2 minutes" if len(os.sched_getaffinity(0)) < 2 else "1 minute"
     assert first == (
         f"{either.script}: the program isn't built yet: 4 crates are proved first, in about {estimate};"
-        " for an answer now: --unproved, or python3 -m model"
+        f" for an answer now, without a proof: {UNPROVED[either.script]}"
     )
     assert rest[0].startswith(f"{either.script}: 0 of 4 crates proved; now ")
     assert re.search(r"now .*(low|beside).*; about \d+ minutes? left$", rest[0])
@@ -643,7 +645,7 @@ def test_what_is_wrong_by_the_script_is_wrong_by_the_rows_of_the_gate() -> None:
     ("words", "said"),
     [
         ("", "no command is named; --help shows them"),
-        ("--nonsense a", f"--nonsense: {NO_OPTION}"),
+        ("--nonsense a", f"--nonsense: {NO_OPTION_OF_VIEW}"),
         ("turn a", "turn: no such command; the commands are turns and show"),
         ("turns a --from 1", "turns needs --to CYCLE"),
         ("turns --from 1 --to 2", "turns needs SETUP"),
@@ -1048,6 +1050,48 @@ def test_a_missing_package_is_one_line_and_a_status_of_its_own(checkout: Checkou
 # ---------------------------------------------------------------- an answer without a proof
 
 
+BY_MODEL = "flexpret: nothing of this answer is proved: the model in Python gives it\n"
+ASKED = ("run", "examples/drive.toml", "--thread", "0", "--cycles", "9")
+
+
+def test_an_answer_by_the_model(checkout: Checkout) -> None:
+    """It needs no kit, no build and no packages."""
+    without_packages(checkout)
+    (checkout.folder / "bin/rt").unlink()
+    model = str(checkout.folder / "tools/fp_model")
+    for words, more in ((("--model", *ASKED), {}), (ASKED, {"FLEXPRET": model}), (("--use", model, *ASKED), {})):
+        ran = checkout.run(*words, **more)
+        assert (ran.returncode, ran.stderr) == (0, BY_MODEL), words
+        assert ran.stdout.startswith("         0 00000000 ") and not checkout.log.exists()
+    assert checkout.run("--quiet", "--model", *ASKED).stderr == ""
+    ran = checkout.run("--model", "run", "examples/none.toml", "--thread", "0", "--cycles", "9")
+    assert ran.returncode == 7 and ran.stderr.startswith(f"{BY_MODEL}flexpret: read failed\nflexpret: examples/none.toml: ")
+    ran = checkout.run("--model", "run", "--thread", "9")
+    assert ran.returncode == 2 and ran.stderr.splitlines()[1] == "flexpret: --thread 9: a thread is 0 to 7"
+    assert checkout.run("--model", "--version").stdout == "flexpret: the model in Python: nothing of its answers is proved\n"
+
+
+def test_the_model_stands_by_itself(checkout: Checkout, tmp_path_factory: pytest.TempPathFactory) -> None:
+    ran = checkout.run("--model", "--unproved", *ASKED)
+    said = "flexpret: --model is given with another way to the answer: --use or --unproved\n"
+    assert (ran.returncode, ran.stdout, ran.stderr) == (2, "", said)
+    view = Checkout(tmp_path_factory.mktemp("view"), "flexpret-view", "flexpret_view")
+    ran = view.run("--model", *TURNS)
+    assert (ran.returncode, ran.stderr) == (2, "flexpret-view: --model is for ./flexpret: the view has no model\n")
+
+
+def test_tools_ask_the_model(checkout: Checkout) -> None:
+    checkout.folder.joinpath("examples").symlink_to(TOP / "examples")
+    shutil.copytree(TOP / "model", checkout.folder / "model", ignore=shutil.ignore_patterns("tests", "__pycache__"))
+    words = ("fp_budget", "examples/c/pid.toml", "examples/c/budgets.toml", "--elf", "examples/c/pid.elf")
+    for more, named in (((), {"FLEXPRET": "tools/fp_model"}), (("--flexpret", "tools/fp_model"), {})):
+        ran = subprocess.run(
+            [sys.executable, f"tools/{words[0]}", *words[1:], *more], cwd=checkout.folder,
+            env={**checkout.environment, **named}, capture_output=True, text=True, check=False,
+        )  # fmt: skip
+        assert ran.stdout.startswith("holds    T0 a step of the controller: 352 of 400 cycles") and BY_MODEL in ran.stderr
+
+
 def test_an_answer_without_a_proof(checkout: Checkout, tmp_path_factory: pytest.TempPathFactory) -> None:
     folder = tmp_path_factory.mktemp("a call")
     (folder / "a.toml").write_text('version = 1\nimage = "../elsewhere/x.fpx" # there\n')
@@ -1129,9 +1173,9 @@ SCRIPTS_OPTIONS = ("-o", "--listing", "--map", "--elf", "--quiet")
 """The options behind a command that the script takes, or a tool."""
 
 
-@pytest.mark.parametrize("option", ["--quiet", "--unproved", "--use", "--version", "--help"])
+@pytest.mark.parametrize("option", ["--quiet", "--model", "--unproved", "--use", "--version", "--help"])
 def test_the_scripts_options_are_in_help_man_page_and_completion(option: str) -> None:
-    for name in ("flexpret", "flexpret-view"):
+    for name in ("flexpret", "flexpret-view") if option != "--model" else ("flexpret",):
         text = subprocess.run([TOP / name, "--help"], capture_output=True, text=True, check=True).stdout
         assert option in text
         assert option.replace("-", "\\-") in (TOP / f"tools/{name}.1").read_text()
