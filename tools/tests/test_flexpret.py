@@ -1067,7 +1067,7 @@ def test_an_answer_by_the_model(checkout: Checkout) -> None:
     ran = checkout.run("--model", "run", "examples/none.toml", "--thread", "0", "--cycles", "9")
     assert ran.returncode == 7 and ran.stderr.startswith(f"{BY_MODEL}flexpret: read failed\nflexpret: examples/none.toml: ")
     ran = checkout.run("--model", "run", "--thread", "9")
-    assert ran.returncode == 2 and ran.stderr.splitlines()[1] == "flexpret: --thread 9: a thread is 0 to 7"
+    assert ran.returncode == 2 and ran.stderr.splitlines()[1] == "flexpret: --thread 9: threads are 0 to 7"
     assert checkout.run("--model", "--version").stdout == "flexpret: the model in Python: nothing of its answers is proved\n"
 
 
