@@ -132,12 +132,14 @@ def either(tmp_path: Path, request: pytest.FixtureRequest) -> Checkout:
 def test_a_first_build_says_how_long_it_takes_and_which_crates_are_left(either: Checkout) -> None:
     ran = either.run(*either.words, given="in\n")
     first, *rest = ran.stderr.splitlines()
-    # Where there is a second processor, it gets jobs of the crates of the longest chain.
-    estimate = "2 minutes" if len(os.sched_getaffinity(0)) < 2 else "1 minute"
-    assert first == (
-        f"{either.script}: the program isn't built yet: 4 crates are proved first, in about {estimate};"
-        f" for an answer now, without a proof: {UNPROVED[either.script]}"
+    found = re.fullmatch(
+        f"{either.script}: the program isn't built yet: 4 crates are proved first, in about (\\d+) minutes?;"
+        f" for an answer now, without a proof: {UNPROVED[either.script]}",
+        first,
     )
+    # Where there is a second processor, it gets jobs of the crates of the longest chain. A load makes it longer.
+    quiet = 2 if len(os.sched_getaffinity(0)) < 2 else 1
+    assert found and quiet <= int(found[1]) <= quiet * (3 + os.getloadavg()[0])
     assert rest[0].startswith(f"{either.script}: 0 of 4 crates proved; now ")
     assert re.search(r"now .*(low|beside).*; about \d+ minutes? left$", rest[0])
     assert rest[-1].startswith(f"{either.script}: 3 of 4 crates proved; now {either.out.parent.name}; about ")
@@ -170,6 +172,30 @@ def test_the_longest_chain_comes_first(checkout: Checkout) -> None:
     assert ran.stdout == "b True\n"
 
 
+def test_the_forecast_follows_the_load_and_proofs_that_take_longer(checkout: Checkout) -> None:
+    """In seconds: at load 0 and at load 8 on 2 processors; after a crate that took three times its estimate; and while one takes longer."""
+    for name, size in (("low", 100_000), ("beside", 100_000), ("middle", 100_000), ("flexpret_cli", 100_000)):
+        (checkout.folder / "crates" / name / "src/lib.rt").write_text(" " * size)
+    command = """import sys; sys.path.insert(0, 'tools')
+from fplaunch import build
+from pathlib import Path
+import time
+build.processors = lambda: 2
+def plan(load): return build.Plan(build.Checkout(Path('.'), 'flexpret_cli'), 2, load=load)
+quiet, busy, slow, late = plan(0.0), plan(8.0), plan(0.0), plan(0.0)
+print(round(busy.left() / quiet.left(), 1))
+slow.done['low'] = 3 * slow.weight['low']
+print(2 < slow.pace() < 3)
+late.running['flexpret_cli'] = time.monotonic() - 3000
+late.done = {it: late.weight[it] for it in ('low', 'beside', 'middle')}
+print(300 < late.left() < 700)
+shown = build.Progress('x', late, False); shown.terminal = False; shown.show()
+"""
+    ran = subprocess.run([sys.executable, "-c", command], cwd=checkout.folder, capture_output=True, text=True, check=True)
+    assert ran.stdout.split() == ["5.0", "True", "True"]
+    assert re.fullmatch(r"x: 3 of 4 crates proved; now flexpret_cli \(for 50 minutes\); about (8|9|10) minutes left\n", ran.stderr)
+
+
 def test_a_shorter_chain_yields_the_processors(checkout: Checkout) -> None:
     (checkout.folder / "crates.txt").write_text("a:\nb:\nc: b\nflexpret_cli: a c\n")
     for name, size in (("a", 20000), ("b", 100000), ("c", 100000)):
@@ -189,6 +215,30 @@ def test_a_proof_has_the_processors_that_no_other_crate_needs(checkout: Checkout
         words = [sys.executable, "-c", f"memory = {memory} << 30; {command}"]
         ran = subprocess.run(words, cwd=checkout.folder, capture_output=True, text=True, check=True)
         assert ran.stdout == f"{jobs}\n"
+
+
+def test_fp_plant_builds_its_program(checkout: Checkout) -> None:
+    """With forecast and progress, once; a failure is one line more, and status 2."""
+    (checkout.folder / "crates.txt").write_text(CRATES + "loop_cli: middle\n")
+    (checkout.folder / "crates/loop_cli/src").mkdir(parents=True)
+    (checkout.folder / "examples").symlink_to(TOP / "examples")
+
+    def called(**named: str) -> subprocess.CompletedProcess[str]:
+        words = ("examples/loop/motor.toml", "--thread", "0", "--every", "100", "--cycles", "1000", "--", "true")
+        environment = {**checkout.environment, "RT_PROGRAM": "#!/bin/sh\nexit 9\n", **named}
+        environment.pop("LOOP_CLI", None)
+        return subprocess.run(
+            [sys.executable, "tools/fp_plant", *words], cwd=checkout.folder, env=environment,
+            capture_output=True, text=True, check=False,
+        )  # fmt: skip
+
+    ran = called(RT_STATUS="1", RT_SAYS="error: x")
+    assert ran.returncode == 2 and ran.stderr.splitlines()[-1] == "fp_plant: without loop_cli there is no run"
+    ran = called()
+    assert re.match(r"fp_plant: loop_cli isn't built yet: 4 crates are proved first, in about \d+ minutes?\n", ran.stderr)
+    assert re.search(r"^fp_plant: 3 of 4 crates proved; now loop_cli; about ", ran.stderr, re.MULTILINE)
+    assert ran.stderr.splitlines()[-1] == "fp_plant: loop_cli ended with status 9" and ran.returncode == 2
+    assert called().stderr == "fp_plant: loop_cli ended with status 9\n"
 
 
 def test_nothing_is_built_twice_until_a_source_changes(either: Checkout) -> None:
