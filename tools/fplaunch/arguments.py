@@ -92,6 +92,10 @@ def thread_fault(text: str) -> str | None:
     return None if re.fullmatch("[0-7]", text) else "threads are 0 to 7"
 
 
+NAMED = re.compile(r"[A-Za-z_.$][\w.$]*(\+(0x[0-9a-fA-F]+|\d+))?")
+"""A name, or a name and a number."""
+
+
 def cycles_fault(text: str, most: int) -> str | None:
     if decimal(text, most) is not None:
         return None
@@ -101,7 +105,8 @@ def cycles_fault(text: str, most: int) -> str | None:
 def address_fault(text: str) -> str | None:
     if address(text) is not None:
         return None
-    return "an address is decimal, or 0x and one to eight hexadecimal digits, at most 0xffffffff"
+    named = "; a name needs --elf FILE or --map FILE" if NAMED.fullmatch(text) else ""
+    return f"an address is decimal, or 0x and one to eight hexadecimal digits, at most 0xffffffff{named}"
 
 
 FAULTS: dict[str, Callable[[str], str | None]] = {

@@ -109,7 +109,10 @@ class _Layout:
         for name, own in self.of_function.items():
             for it in filter(_is_mark, own):
                 if it.name in self.places:
-                    why = "the compiler doubled its place, by inlining or unrolling"
+                    why = (
+                        "the compiler doubled its place, by inlining or unrolling: __attribute__((noinline)) on the "
+                        "functions between the marks, and no `continue` there, prevents that"
+                    )
                     raise Fault(it.line, f"mark {it.name} is also at line {self.places[it.name][1]}: {why}")
                 self.places[it.name] = name, it.line
         self.flags = self._line_flags()

@@ -646,6 +646,11 @@ def test_help_waits_for_no_build(either: Checkout, words: tuple[str, ...]) -> No
             "--from 0X10: an address is decimal, or 0x and one to eight hexadecimal digits, at most 0xffffffff",
         ),
         (
+            ("bound", "a", "--thread", "1", "--from", "period+8", "--to", "4"),
+            "--from period+8: an address is decimal, or 0x and one to eight hexadecimal digits, at most 0xffffffff; "
+            "a name needs --elf FILE or --map FILE",
+        ),
+        (
             ("check", "a", "--thread", "1", "--cycles", "1000001", "--trace", "t"),
             "--cycles 1000001: check compares at most 1000000 cycles",
         ),
@@ -1102,6 +1107,25 @@ def test_a_missing_package_is_one_line_and_a_status_of_its_own(checkout: Checkou
 
 BY_MODEL = "flexpret: nothing of this answer is proved: the model in Python gives it\n"
 ASKED = ("run", "examples/drive.toml", "--thread", "0", "--cycles", "9")
+
+
+@pytest.mark.parametrize(
+    ("old", "new", "words", "why"),
+    [
+        ("id = 0", "id = 0", ("5", "99"), "T5 issues nothing in the first 99 cycles: no [[thread]] of it.toml has id = 5, so it sleeps"),
+        ('slots = ["T0"', 'slots = ["S"', ("0", "5000"), 'T0 issues nothing in the first 5000 cycles: it is hard, and no slot is "T0"'),
+        ("id = 0", "id = 0", ("0", "1"), "T0 issues nothing in the first 1 cycle: its first turn comes later"),
+        ('mode = "hard"', 'mode = "hard-asleep"', ("0", "0099"), "T0 issues nothing in the first 99 cycles: it starts asleep"),
+        ("id = 0", "id = 0", ("0", "99"), ""),
+    ],
+)  # fmt: skip
+def test_a_run_without_an_event_says_why(checkout: Checkout, old: str, new: str, words: tuple[str, str], why: str) -> None:
+    without_packages(checkout)
+    (checkout.folder / "it.toml").write_text((TOP / "examples/sum.toml").read_text().replace(old, new))
+    ran = checkout.run("--model", "run", "it.toml", "--thread", words[0], f"--cycles={words[1]}")
+    assert (ran.returncode, ran.stdout == "") == (0, bool(why)), ran.stderr
+    assert ran.stderr == BY_MODEL + (f"flexpret: {why}\n" if why else "")
+    assert checkout.run("--quiet", "--model", "run", "it.toml", "--thread", "5", "--cycles", "9").stderr == ""
 
 
 def test_an_answer_by_the_model(checkout: Checkout) -> None:

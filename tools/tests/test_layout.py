@@ -371,7 +371,7 @@ def test_marks_in_two_functions_and_marks_that_are_none() -> None:
     text = HEAD + function(mark("a_begin") + "\tret\n") + function(mark("a_end") + "\tret\n", "g")
     with pytest.raises(Fault, match="section a_begin:a_end begins in f and ends in g"):
         lay_out(Assembly(text))
-    with pytest.raises(Fault, match="mark a is also at line 12: the compiler doubled its place"):
+    with pytest.raises(Fault, match=r"mark a is also at line 12: the compiler doubled its place, .*noinline"):
         lay_out(Assembly(HEAD + function(mark("a") + mark("a") + "\tret\n")))
     with pytest.raises(Fault, match="section p:q: no asm of a function has the label `p`"):
         lay_out(Assembly(text), Options((Marks("p", "q"),)))
