@@ -24,7 +24,7 @@ _flexpret_is_first() {
     local at skipped=''
     for ((at = 1; at < COMP_CWORD; at++)); do
         case $skipped${COMP_WORDS[at]} in
-        --quiet | --unproved) ;;
+        --quiet | --model | --unproved) ;;
         --use) skipped='file' ;;
         file*) skipped='' ;;
         *) return 1 ;;
@@ -39,7 +39,7 @@ _flexpret() {
     _flexpret_words
     if _flexpret_is_first; then
         case $word in
-        -*) _flexpret_offer -W "$_flexpret_own" ;;
+        -*) _flexpret_offer -W "--model $_flexpret_own" ;;
         *) _flexpret_offer -W 'run dump phases solo check bound calls asm elf selfrun disasm' ;;
         esac
         return

@@ -38,11 +38,15 @@ put_tools() {
     for file in "$tools"/fp* "$tools"/launch.bash "$tools"/*.schema.json; do
         [ -d "$file" ] || install -D -m "$([ -x "$file" ] && echo 755 || echo 644)" "$file" "$home/tools/${file##*/}"
     done
-    for file in "$tools"/fplaunch/*.py "$tools"/fptools/{,html/}*.py "$tools"/fptools/html/templates/*; do
+    for file in "$tools"/fplaunch/*.py "$tools"/fptools/{,html/}*.py "$tools"/fptools/{html/templates,new}/*; do
         install -D -m 644 "$file" "$home/tools/${file#"$tools/"}"
     done
     for file in "$top"/model/*.py; do
         install -D -m 644 "$file" "$home/model/${file##*/}"
+    done
+    # fp_new makes programs of them.
+    for file in Makefile flexpret.h flexpret.ld start.s; do
+        install -D -m 644 "$top/examples/c/$file" "$home/examples/c/$file"
     done
 }
 

@@ -12,7 +12,7 @@ launches() {
     program=$out/$crate
     names=$out/$crate.names times=$out/$crate.times
     quiet='' used='' given=() said=''
-    unproved='' status=0
+    unproved='' model='' status=0
 }
 
 # Prints a line of the script on standard error.
@@ -74,6 +74,7 @@ options() {
         case $1 in
         --quiet) quiet=1 ;;
         --unproved) unproved=1 ;;
+        --model) model=1 ;;
         --use)
             name_program "${2-}"
             shift
@@ -97,6 +98,10 @@ options() {
 
 # Prints the program's commit and kit, and ends the script.
 version() {
+    if [ -n "$model" ]; then
+        echo "$script: the model in Python: nothing of its answers is proved"
+        exit
+    fi
     quiet=1
     choose_program
     if [ -n "$used" ]; then helper version "$program"; else helper version; fi
@@ -120,6 +125,11 @@ is_built() {
 # Chooses the program that --use or the variable names, unless it is this script.
 choose_program() {
     local named=${!variable-}
+    if [ -n "$model" ]; then
+        [ -z "$used$unproved" ] || stop 2 '--model is given with another way to the answer: --use or --unproved'
+        [ -x "$top/tools/fp_model" ] || stop "$NOT_BUILT" "--model: tools/fp_model isn't there"
+        used=$top/tools/fp_model
+    fi
     if [ -z "$used" ] && [ -n "$named" ] && ! [ "$named" -ef "$self" ]; then used=$named; fi
     [ -z "$used" ] || use "$used"
 }
@@ -138,6 +148,11 @@ use() {
     local line='' commit='no record says from which sources it was built' kit=''
     program=$(readlink -f -- "$1")
     if [ ! -f "$program" ] || [ ! -x "$program" ]; then stop "$NOT_BUILT" "$1 isn't a program that can be run"; fi
+    if [ "$program" -ef "$top/tools/fp_model" ]; then
+        [ -n "$quiet" ] || say 'nothing of this answer is proved: the model in Python gives it'
+        export FLEXPRET_QUIET=1
+        return
+    fi
     if [ -r "$program.sources" ]; then
         while read -r line; do
             case $line in

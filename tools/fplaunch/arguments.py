@@ -44,7 +44,8 @@ ALL_COMMANDS = (*COMMANDS, "disasm")
 ADDED = {"asm": ("-o", "--listing", "--map"), "elf": ("-o",), "bound": ("--elf", "--map"), "calls": ("--elf", "--map")}
 """The options that the script adds to a command."""
 
-BEFORE = ("--quiet", "--unproved", "--use", "--version", "--help")
+BEFORE_VIEW = ("--quiet", "--unproved", "--use", "--version", "--help")
+BEFORE = ("--quiet", "--model", *BEFORE_VIEW[1:])
 """The options of the scripts themselves, which are written before the command."""
 
 VALUES = {"thread": "I", "cycles": "N", "from": "A", "to": "B", "trace": "FILE", "routines": "FILE"}
@@ -91,6 +92,10 @@ def thread_fault(text: str) -> str | None:
     return None if re.fullmatch("[0-7]", text) else "threads are 0 to 7"
 
 
+NAMED = re.compile(r"[A-Za-z_.$][\w.$]*(\+(0x[0-9a-fA-F]+|\d+))?")
+"""A name, or a name and a number."""
+
+
 def cycles_fault(text: str, most: int) -> str | None:
     if decimal(text, most) is not None:
         return None
@@ -100,7 +105,8 @@ def cycles_fault(text: str, most: int) -> str | None:
 def address_fault(text: str) -> str | None:
     if address(text) is not None:
         return None
-    return "an address is decimal, or 0x and one to eight hexadecimal digits, at most 0xffffffff"
+    named = "; a name needs --elf FILE or --map FILE" if NAMED.fullmatch(text) else ""
+    return f"an address is decimal, or 0x and one to eight hexadecimal digits, at most 0xffffffff{named}"
 
 
 FAULTS: dict[str, Callable[[str], str | None]] = {
@@ -163,11 +169,11 @@ def unknown_option(name: str, word: str, option: str) -> str:
     return f"--{option}: {known}" + (f"; is {near[0]} meant?" if near else "")
 
 
-def unknown_option_before(word: str) -> str:
+def unknown_option_before(word: str, known: Sequence[str] = BEFORE) -> str:
     """The message about an argument before the command that begins with `-` and is no option of the script."""
     option = word.partition("=")[0]
-    near = difflib.get_close_matches(option, BEFORE, 1)
-    return f"{option}: no such option before the command; these are {listed(BEFORE)}" + (f"; is {near[0]} meant?" if near else "")
+    near = difflib.get_close_matches(option, known, 1)
+    return f"{option}: no such option before the command; these are {listed(known)}" + (f"; is {near[0]} meant?" if near else "")
 
 
 def listed(names: Sequence[str]) -> str:

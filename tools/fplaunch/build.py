@@ -42,11 +42,19 @@ the link of a program."""
 JOBS_GAIN = 1.3
 """How many times as fast the longest chain of crates is proved where processors are idle: they get jobs of its proofs."""
 
+TRUST_SECONDS, OVERRUN = 60.0, 0.2
+"""The forecast by the load counts as so many seconds of proofs; and the part of its time so far that a proof may still take if it takes longer than
+its estimate."""
+
 SLACK_SECONDS, MOST_NICENESS = 30.0, 15
 """Seconds, and the largest niceness. A proof gets one point for each SLACK_SECONDS by which its chain is shorter than the longest one."""
 
 TRIED = {"flexpret_cli": ["asm", "data/loads.s"], "flexpret_view": ["--help"]}
-"""The arguments of the call by which `rt run` tries a program at the end of its build."""
+"""The arguments of the call by which `rt run` tries a program at the end of its build, if they aren't those of its file `args`."""
+
+
+UNPROVED = {"flexpret_cli": "--model", "flexpret_view": "--unproved"}
+"""The option of each script by which it answers without a build."""
 
 
 class NotBuilt(Exception):
@@ -95,6 +103,8 @@ class Plan:
     running: dict[str, float] = field(default_factory=dict)
     done: dict[str, float] = field(default_factory=dict)
     """The seconds that each crate took."""
+    load: float = field(default_factory=lambda: os.getloadavg()[0])
+    """How many programs wanted a processor before."""
 
     @cached_property
     def below(self) -> dict[str, list[str]]:
@@ -120,23 +130,24 @@ class Plan:
 
     def left(self) -> float:
         """The estimated seconds until the program is built, by the pace so far."""
-        spent = self.spent()
-        longest = max((self.chain[crate] - spent.get(crate, 0.0) for crate in self.ahead()), default=0.0)
-        return max(self.share_left(), longest / JOBS_GAIN) * self.pace()
+        pace, rest = self.pace(), self.rest()
+        longest = max(((self.chain[it] - self.weight[it]) * pace + left for it, left in rest.items()), default=0.0)
+        return max(sum(rest.values()) / self.at_once, longest / JOBS_GAIN)
 
     def ahead(self) -> list[str]:
         """The crates that aren't proved yet."""
         return [crate for crate in self.below if crate not in self.done]
 
     def spent(self) -> dict[str, float]:
-        """The seconds that each running proof took so far, at most its estimate."""
+        """The seconds that each running proof took so far."""
         now = time.monotonic()
-        return {crate: min(now - since, self.weight[crate]) for crate, since in self.running.items()}
+        return {crate: now - since for crate, since in self.running.items()}
 
-    def share_left(self) -> float:
-        """The estimated seconds left for each processor, if none has to wait."""
-        spent = self.spent()
-        return sum(self.weight[crate] - spent.get(crate, 0.0) for crate in self.ahead()) / self.at_once
+    def rest(self) -> dict[str, float]:
+        """The estimated seconds that each crate still takes here."""
+        pace, spent = self.pace(), self.spent()
+        expected = {crate: self.weight[crate] * pace for crate in self.ahead()}
+        return expected | {crate: max(expected[crate] - took, took * OVERRUN) for crate, took in spent.items() if crate in expected}
 
     def niceness(self, crate: str) -> int:
         """The niceness of a crate's proof: 0 for the crate at the start of the longest chain."""
@@ -150,10 +161,15 @@ class Plan:
         return 1 + max(0, min(idle, free_memory() // JOB_MEMORY - 1))
 
     def pace(self) -> float:
-        """The time of crates here, relative to a quiet processor of 2.5 GHz. Crates that took less than FIRST_SECONDS had been proved before."""
-        proved = [crate for crate, took in self.done.items() if took > FIRST_SECONDS]
-        known = sum(self.weight[crate] for crate in proved)
-        return sum(self.done[crate] for crate in proved) / known if known else 1.0
+        """The time of crates here, relative to a quiet processor of 2.5 GHz: by the load before the build, by crates that are proved, and by those
+        that take longer than their estimate. Crates that took less than FIRST_SECONDS had been proved before."""
+        by_load = max(1.0, (self.load + self.at_once) / processors())
+        took, known = TRUST_SECONDS * by_load, TRUST_SECONDS
+        for crate, seconds in [*self.done.items(), *self.spent().items()]:
+            is_late = seconds > self.weight[crate] * by_load
+            if (crate in self.done and seconds > FIRST_SECONDS) or (crate not in self.done and is_late):
+                took, known = took + seconds, known + self.weight[crate]
+        return took / known
 
 
 class Progress:
@@ -167,7 +183,8 @@ class Progress:
         if self.quiet:
             return
         plan = self.plan
-        at = ", ".join(plan.running) or "the program"
+        spent = plan.spent()
+        at = ", ".join(crate + (f" (for {minutes(spent[crate])})" if spent[crate] >= 60 else "") for crate in plan.running) or "the program"
         line = f"{self.script}: {len(plan.done)} of {len(plan.below)} crates proved; now {at}; about {minutes(plan.left())} left"
         if self.terminal:
             columns = shutil.get_terminal_size().columns
@@ -215,7 +232,7 @@ class Builder:
         flags, checkout = ["--jobs", str(count)], self.plan.checkout
         if crate == checkout.crate:
             self.hold.close()
-            self.call(checkout.top, crate, niceness, ["run", *flags, "--", *TRIED[crate]])
+            self.call(checkout.top, crate, niceness, ["run", *flags, *(["--", *TRIED[crate]] if crate in TRIED else [])])
         else:
             with tree_of(checkout, crate) as top:
                 self.call(top, crate, niceness, ["lib", *flags])
@@ -291,8 +308,8 @@ def in_turn(script: str, checkout: Checkout, quiet: bool) -> Iterator[bool]:
 def first_line(checkout: Checkout, plan: Plan) -> str:
     """The first message of a build."""
     return (
-        f"the program isn't built yet: {len(plan.below)} crates are proved first, in about {minutes(plan.left())};"
-        " for an answer now: --unproved, or python3 -m model"
+        f"{'the program' if checkout.crate in UNPROVED else checkout.crate} isn't built yet: {len(plan.below)} crates are proved first, in about"
+        f" {minutes(plan.left())}" + (f"; for an answer now, without a proof: {UNPROVED[checkout.crate]}" if checkout.crate in UNPROVED else "")
     )
 
 

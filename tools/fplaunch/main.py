@@ -87,6 +87,17 @@ def warn(script: str, checkout: Checkout, words: list[str]) -> int:
     return 0
 
 
+def nothing(script: str, checkout: Checkout, words: list[str]) -> int:
+    """Says why a run has no event. The arguments are the setup, the thread and the cycles."""
+    from fplaunch.nothing import why
+
+    try:
+        say(script, why(Path(words[0]), int(words[1]), int(words[2])))
+    except (OSError, ValueError, KeyError, TypeError):
+        return 1
+    return 0
+
+
 def option(script: str, checkout: Checkout, words: list[str]) -> int:
     """Prints the value of an option of a command."""
     from fplaunch.arguments import Fault, parse
@@ -115,7 +126,7 @@ def version(script: str, checkout: Checkout, words: list[str]) -> int:
 
 COMMANDS = {
     "is-built": is_built, "build": build, "unproved": unproved, "explain": explain, "files": files, "warn": warn, "option": option,
-    "version": version,
+    "version": version, "nothing": nothing,
 }  # fmt: skip
 
 

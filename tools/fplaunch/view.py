@@ -3,7 +3,7 @@ from __future__ import annotations
 
 from typing import Iterator
 
-from fplaunch.arguments import unknown_option_before as unknown_option
+from fplaunch.arguments import BEFORE_VIEW, unknown_option_before
 
 MOST_CYCLE = 3_999_999_997
 """The largest end of a window, in cycles."""
@@ -20,7 +20,7 @@ def fault_of(words: list[str]) -> str | None:
     if not words:
         return "no command is named; --help shows them"
     if words[0].startswith("-"):
-        return unknown_option(words[0])
+        return unknown_option_before(words[0], BEFORE_VIEW)
     if words[0] != "turns":
         return f"{words[0]}: no such command; the commands are turns and show"
     subjects: list[str] = []

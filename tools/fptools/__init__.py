@@ -3,7 +3,9 @@ from __future__ import annotations
 
 import importlib.util
 import os
+import subprocess
 import sys
+from pathlib import Path
 from typing import NoReturn
 
 PACKAGES = {
@@ -21,18 +23,42 @@ NOT_STARTED = int(os.environ.get("FLEXPRET_NOT_STARTED") or 2)
 """The status of a tool whose Python is too old or lacks a package. The scripts set their own one for the tools that they call."""
 
 
+DEBIAN = "/usr/bin/python3"
+"""The Python for which Debian's packages are. It runs a tool whose own Python is too old or lacks a package."""
+
+TRIED = os.environ.pop("FLEXPRET_TRIED_DEBIAN", "")
+"""Set if Debian's Python runs this tool in place of another one."""
+
+IS_NEW = "import importlib.util, sys; sys.exit(not (sys.version_info >= (3, 11) and all(map(importlib.util.find_spec, sys.argv[1:]))))"
+"""Whether a Python is new enough, and has the modules of its arguments."""
+
+
 def has(*modules: str) -> bool:
     """Whether these modules are installed."""
     return all(importlib.util.find_spec(module) is not None for module in modules)
 
 
 def require(*modules: str) -> None:
-    """Ends the call with one line and NOT_STARTED if a module isn't installed. The line has all packages of `PACKAGES` that are missing."""
+    """If a module isn't installed, lets Debian's Python run the tool. If that one lacks it too, ends the call with one line and NOT_STARTED. The
+    line has all packages of `PACKAGES` that are missing."""
     if has(*modules):
         return
+    try_debian(*modules)
     missing = [packages for module, packages in PACKAGES.items() if not has(module) and (module in modules or module != "jinja2")]
     names, debian = ", ".join(name for name, _ in missing), " ".join(package for _, package in missing)
     end(f"lacks {names}; for /usr/bin/python3 of Debian: apt-get install {debian}")
+
+
+def try_debian(*modules: str) -> None:
+    """Runs this call again by Debian's Python, if a tool was called and that Python has the modules."""
+    script = Path(sys.argv[0] if sys.argv else "")
+    is_tool = script.name.startswith("fp_") and script.is_file() and script.resolve().parent == Path(__file__).resolve().parents[1]
+    flags = sys.orig_argv[1 : len(sys.orig_argv) - len(sys.argv)]
+    if TRIED or not is_tool or not os.access(DEBIAN, os.X_OK):
+        return
+    if subprocess.run([DEBIAN, *flags, "-c", IS_NEW, *modules], capture_output=True, check=False).returncode == 0:
+        os.environ["FLEXPRET_TRIED_DEBIAN"] = "1"
+        os.execv(DEBIAN, [DEBIAN, *flags, *sys.argv])
 
 
 def end(fault: str) -> NoReturn:
@@ -43,4 +69,5 @@ def end(fault: str) -> NoReturn:
 
 
 if sys.version_info < OLDEST:
+    try_debian()
     end("is too old: the tools need Python 3.11 or later")

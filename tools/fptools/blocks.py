@@ -75,6 +75,7 @@ class Branch:
     name: str
     compared: str
     to: int
+    line: int = field(default=0, compare=False)  # in the assembly
 
 
 @dataclass
@@ -91,6 +92,7 @@ class Block:
     stop: Item | None = None  # a return or a trap
     ends: list[Item] = field(default_factory=list)  # debugger's labels after the last instruction
     has_jump: bool = False  # a jump leads to the successor
+    jump_line: int = 0
     source: SourceLine | None = None
     frame: Frame | None = None
 
@@ -155,8 +157,8 @@ HARMLESS = (
     ".hidden",
 )
 SECTION = (".section", ".text", ".data", ".bss", ".pushsection", ".popsection", ".previous", ".subsection")
-RANGE_END = re.compile(r"\.L(BE|FE|BBE)\d*$")
-"""Labels at the end of a range of instructions."""
+RANGE_END = re.compile(r"\.L(BE|BBE)\d*$")
+"""Labels at the end of a range of instructions. The function's own end stays there."""
 
 SWITCH = ": -fno-jump-tables avoids it for a switch; a computed goto has no bound"
 PARTS = "-fno-reorder-blocks-and-partition keeps it in one section"
@@ -181,6 +183,7 @@ class Reader:
         self.source: SourceLine | None = None
         self.frame = Frame()
         self.frames: list[Frame] = []  # of `.cfi_remember_state`
+        self.files: list[str] = []
         self.lost_frame = ""  # the first unknown directive of a frame
         for statement in self.statements:
             self._take(statement)
@@ -254,6 +257,8 @@ class Reader:
             raise Stays(it.line, f"an asm has `{it}`")
         if it.name == ".loc":
             self._line(it)
+        elif it.name == ".file":
+            self.files.append(it.text)
         elif it.name.startswith(".cfi_"):
             try:
                 self._frame(it)
@@ -336,11 +341,11 @@ class Reader:
             return
         self.is_ended = True
         if made.flow is Flow.BRANCH:
-            block.branch = Branch(it.name, made.compared, -1)
+            block.branch = Branch(it.name, made.compared, -1, it.line)
             self.branches[len(self.blocks) - 1] = it.line, made.target
         elif made.flow is Flow.JUMP:
             self.jumps[len(self.blocks) - 1] = it.line, made.target
-            block.has_jump = True
+            block.has_jump, block.jump_line = True, it.line
         else:
             block.stop = Item(Part.CODE, it.text, it.line, size=made.size)
 
@@ -364,6 +369,7 @@ class Body:
     behind: list[Item]  # after the last block
     source: SourceLine | None  # at the end
     lost_frame: str
+    files: list[str]  # the `.file` among its code, which come before each `.loc` that uses them
 
     def kept(self) -> list[Block]:
         """A copy of the blocks, which later changes don't reach."""
@@ -397,7 +403,7 @@ def body_of(statements: Iterable[Statement], is_statement: bool = True) -> Body:
         elif block.stop is None and index + 1 < len(blocks):
             block.onward = index + 1
     behind = [it for it in reader.pending if it.part is not Part.FRAME]
-    return Body(_with_entry(blocks), behind, reader.source, reader.lost_frame)
+    return Body(_with_entry(blocks), behind, reader.source, reader.lost_frame, reader.files)
 
 
 def _with_entry(blocks: list[Block]) -> list[Block]:

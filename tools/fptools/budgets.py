@@ -40,7 +40,7 @@ HELP = {
     "Recursion": "its calls lead back to it: rewrite it as a loop",
     "Escape": "it leaves its function other than by `ret`: a tail call (-fno-optimize-sibling-calls), another "
     "function of the same code (-fno-ipa-icf), or a part of it elsewhere (-fno-reorder-blocks-and-partition)",
-    "NotHard": "the thread doesn't start hard and awake",
+    "NotHard": "the thread doesn't start hard and awake: its [[thread]] table has mode = \"hard\", and no thread without a table does",
     "NoSlot": "no slot is the thread's own",
 }
 LONG_CALL = (

@@ -188,10 +188,19 @@ class Program:
         if not named and self.path is None:
             raise ProgramError(f"{parts['name']} is a name, and names need {self.names_need}")
         if not named:
-            raise ProgramError(f"{parts['name']} is no symbol of code in {self.path}")
+            raise ProgramError(f"{parts['name']} is no symbol of code in {self.path}{self._why_no_symbol(parts['name'])}")
         if len(named) > 1:
             raise ProgramError(f"{parts['name']} is at {' and '.join(map(hex, named))}: give the number")
         return named[0] + number
+
+    def _why_no_symbol(self, name: str) -> str:
+        """Why a name of the sources is no symbol, where that is known: a compiler inlines functions, and makes clones of them."""
+        clones = sorted({symbol for _, symbol in self.symbols if symbol.startswith(f"{name}.")})
+        if clones:
+            return f": the compiler made {' and '.join(clones)} of it; __attribute__((noipa)) prevents that"
+        if name in self.function_names:
+            return ": the compiler inlined it, or left it out; __attribute__((noinline)) keeps a function"
+        return ""
 
     def function_at(self, address: int) -> Function | None:
         """The function in which an address lies."""

@@ -6,6 +6,7 @@ from dataclasses import dataclass, field
 
 from fptools.assembly import APP, INVERSE, NO_APP, WORD
 from fptools.blocks import Block, Body, Branch, Frame, Item, Part, SourceLine
+from fptools.debug_ranges import NOWHERE, Origin
 
 KEPT_OF_LOST = (".cfi_startproc", ".cfi_endproc", ".cfi_sections")
 """The frame directives that remain where the others are lost."""
@@ -67,7 +68,7 @@ def _end_of(block: Block, following: int | None, rank: Mapping[int, int]) -> End
     here = rank[following] - 1 if following is not None else len(rank) - 1
     goes_round = rank[onward] <= here and not rank[onward] < rank[branch.to] <= here
     if branch.to == following or goes_round:
-        turned = Branch(INVERSE[branch.name], branch.compared, onward)
+        turned = Branch(INVERSE[branch.name], branch.compared, onward, branch.line)
         return End(turned, None if branch.to == following else branch.to)
     return End(branch, onward)
 
@@ -103,6 +104,7 @@ class Writer:
     names: Names
     is_statement: bool  # the flag of the line table before the function
     lines: list[str] = field(default_factory=list)
+    origins: dict[int, Origin] = field(default_factory=dict)  # of the instructions, by the indices of their lines
     source: SourceLine | None = None
     frame: Frame = Frame()
     by_hand: bool = False
@@ -110,9 +112,10 @@ class Writer:
     def write(self, order: Sequence[int], ends: Sequence[End]) -> list[str]:
         blocks = self.body.blocks
         labels = {index: self.names.of(blocks[index]) for end in ends for index in self._named(end)}
+        self.lines += self.body.files
         for index, end in zip(order, ends):
             self._block(blocks[index], bool(end.size))
-            self._end(end, labels)
+            self._end(blocks[index], end, labels)
             for item in blocks[index].ends:
                 self._put(item.text, item.by_hand)
         for item in self.body.behind:
@@ -127,8 +130,10 @@ class Writer:
         """The blocks whose label an end needs."""
         return ([end.branch.to] if end.branch else []) + ([end.jump] if end.jump is not None else [])
 
-    def _put(self, text: str, by_hand: bool = False) -> None:
+    def _put(self, text: str, by_hand: bool = False, origin: Origin = ()) -> None:
         self._asm(by_hand)
+        if origin:
+            self.origins[len(self.lines)] = origin
         self.lines.append(text)
 
     def _asm(self, by_hand: bool) -> None:
@@ -158,7 +163,7 @@ class Writer:
             if item.part is not Part.LINE or k < last or has_end or block.stop:
                 self._item(item)
         if block.stop:
-            self._put(block.stop.text)
+            self._put(block.stop.text, origin=(block.stop.line,))
 
     @staticmethod
     def _states_line(block: Block) -> bool:
@@ -174,7 +179,7 @@ class Writer:
         elif item.part is Part.FRAME and item.frame:
             self._to_frame(item.frame)
         elif not (self.body.lost_frame and item.text.split()[0] not in KEPT_OF_LOST and ".cfi" in item.text):
-            self._put(item.text, item.by_hand)
+            self._put(item.text, item.by_hand, (item.line,) * (item.part is Part.CODE))
 
     def _to_line(self, source: SourceLine) -> None:
         self._put(source.directive())
@@ -193,16 +198,43 @@ class Writer:
         if source and source.is_statement != self.is_statement:
             self._to_line(source)
 
-    def _end(self, end: End, labels: dict[int, str]) -> None:
+    def _end(self, block: Block, end: End, labels: dict[int, str]) -> None:
         branch = end.branch
+        origin = (branch.line,) if branch else ()
         if branch and end.is_far:
             over = self.names.new()
-            self._put(f"\t{INVERSE[branch.name]}\t{branch.compared}{over}")
-            self._put(f"\tj\t{labels[branch.to]}")
+            self._put(f"\t{INVERSE[branch.name]}\t{branch.compared}{over}", origin=origin)
+            self._put(f"\tj\t{labels[branch.to]}", origin=origin)
             self._put(f"{over}:")
         elif branch:
-            self._put(f"\t{branch.name}\t{branch.compared}{labels[branch.to]}")
+            self._put(f"\t{branch.name}\t{branch.compared}{labels[branch.to]}", origin=origin)
         if end.jump is not None:
-            self._put(f"\tj\t{labels[end.jump]}")
+            self._jump(block, end.jump, labels[end.jump])
         if end.traps:
-            self._put("\tebreak")
+            self._put("\tebreak", origin=NOWHERE)
+
+    def _jump(self, block: Block, to: int, label: str) -> None:
+        """Writes a jump. Where the compiler has none, the state is that before the target's first instruction."""
+        if block.has_jump:
+            self._put(f"\tj\t{label}", origin=(block.jump_line,))
+            return
+        target = self.body.blocks[to]
+        if target.frame:
+            self._to_frame(target.frame)
+        own = [branch.line for branch in [block.branch] if branch] or [it.line for it in block.code[-1:]]
+        self._put(f"\tj\t{label}", origin=(*own, *self._first(to)))
+
+    def _first(self, index: int) -> Origin:
+        """The line of the first instruction from a block on."""
+        seen: set[int] = set()
+        following: int | None = index
+        while following is not None and following not in seen:
+            seen.add(following)
+            block = self.body.blocks[following]
+            for it in (*block.code[:1], block.branch, block.stop):
+                if it:
+                    return (it.line,)
+            if block.has_jump:
+                return (block.jump_line,)
+            following = block.onward
+        return NOWHERE

@@ -27,8 +27,9 @@ class Register:
 
 
 CPU = "org.gnu.gdb.riscv.cpu"
-CSR = "org.gnu.gdb.riscv.csr"
-OWN = "org.rilluqar.flexpret"  # not in gdb's own features
+OWN = "org.rilluqar.flexpret"
+"""A feature that gdb doesn't know, whose registers `info registers` shows. It leaves out those of its
+own feature for CSRs."""
 
 PC = len(ABI_NAMES)  # the number of the pc; x0 to x31 have their own
 CYCLE, TIME = "cycle", "now"
@@ -36,11 +37,11 @@ CYCLE, TIME = "cycle", "now"
 REGISTERS = (
     *(Register(name, CPU, POINTERS.get(name, PLAIN)) for name in ABI_NAMES),
     Register("pc", CPU, CODE),
-    Register("mtvec", CSR, csr=MTVEC),
-    Register("mscratch", CSR, csr=MSCRATCH),
-    Register("mepc", CSR, csr=MEPC),
-    Register("mcause", CSR, csr=MCAUSE),
-    Register("mhartid", CSR, csr=MHARTID),
+    Register("mtvec", OWN, CODE, csr=MTVEC),
+    Register("mscratch", OWN, csr=MSCRATCH),
+    Register("mepc", OWN, CODE, csr=MEPC),
+    Register("mcause", OWN, csr=MCAUSE),
+    Register("mhartid", OWN, csr=MHARTID),
     Register("slots", OWN, BARE, csr=SLOTS),
     Register("modes", OWN, BARE, csr=MODES),
     Register("dregions", OWN, BARE, csr=DREGIONS),
@@ -63,7 +64,7 @@ def target_description() -> bytes:
     numbered = list(enumerate(REGISTERS))
     features = [
         _feature(name, [(at, it) for at, it in numbered if it.feature == name])
-        for name in (CPU, CSR, OWN)
+        for name in (CPU, OWN)
     ]
     head = (
         '<?xml version="1.0"?>\n<!DOCTYPE target SYSTEM "gdb-target.dtd">\n<target version="1.0">'

@@ -8,6 +8,8 @@ from dataclasses import dataclass, field
 from fptools.assembly import TRAPS, Assembly, Fault, Function, Kind, Statement, Stays, source_of, statements
 from fptools.blocks import Block, Body, body_of, skip_jumps
 from fptools.copies import rotate, split_ends, split_entries
+from fptools.debug_cells import Unread
+from fptools.debug_ranges import Debugged, Moved, Origin
 from fptools.emission import Names, Writer, as_compiled, ends_of, mark_far
 from fptools.regions import MOST_AROUND, Flows, Irreducible, Loop, Nest, NoOrder, Order, Section
 from fptools.same_flow import do_the_same
@@ -107,10 +109,14 @@ class _Layout:
         for name, own in self.of_function.items():
             for it in filter(_is_mark, own):
                 if it.name in self.places:
-                    why = "the compiler doubled its place, by inlining or unrolling"
+                    why = (
+                        "the compiler doubled its place, by inlining or unrolling: __attribute__((noinline)) on the "
+                        "functions between the marks, and no `continue` there, prevents that"
+                    )
                     raise Fault(it.line, f"mark {it.name} is also at line {self.places[it.name][1]}: {why}")
                 self.places[it.name] = name, it.line
         self.flags = self._line_flags()
+        self.origins: dict[str, dict[int, Origin]] = {}  # of the instructions of the functions that were written
 
     def _line_flags(self) -> dict[str, bool]:
         """The line table's flag `is_stmt` before each function."""
@@ -124,17 +130,40 @@ class _Layout:
 
     def run(self) -> Laid:
         sections = self._sections()
-        out, done = [], 0
+        out: list[str] = []
+        done, moved = 0, []
         for function in self.assembly.functions:
             out += self.assembly.lines[done : function.first + 1]
             done = function.end
             try:
-                out += self._function(function, sections.get(function.name, []))
+                lines = self._function(function, sections.get(function.name, []))
             except Stays as why:
                 self.laid.kept.append(Message(why.line, f"{function.name} stays as it is: {why.why}"))
-                out += self.assembly.body(function)
-        self.laid.text = "\n".join(out + self.assembly.lines[done:])
+                lines = self.assembly.body(function)
+                self.origins.pop(function.name, None)
+            if function.name in self.origins:
+                moved.append(self._moved(function, len(out)))
+            out += lines
+        self.laid.text = self._debugged(out + self.assembly.lines[done:], moved)
         return self.laid
+
+    def _debugged(self, lines: list[str], moved: list[Moved]) -> str:
+        """The text of the new lines, with a debugger's tables of the functions that have moved. Raises Fault."""
+        if not moved:
+            return "\n".join(lines)
+        try:
+            return Debugged(lines, moved, self.names.new).text()
+        except Unread as why:
+            # The tables come behind all code.
+            line = why.line - (len(lines) - len(self.assembly.lines)) if why.line else 0
+            raise Fault(max(0, line), f"{why.why}: leave out -g, or try -gdwarf-4") from None
+
+    def _moved(self, function: Function, first: int) -> Moved:
+        """What a debugger's tables need of a function whose new body has its first line at an index."""
+        own = self.of_function[function.name]
+        labels = {it.name: it.line for it in own if it.kind is Kind.LABEL}
+        code = [it.line for it in own if it.kind is Kind.CODE]
+        return Moved(labels, code, {first + index: it for index, it in self.origins[function.name].items()})
 
     # ------------------------------------------------------------ sections
 
@@ -326,12 +355,24 @@ class _Layout:
             )
             self.laid.notes.append(Message(function.first + 1, text))
         flag = self.flags[function.name]
-        lines = Writer(body, self.names, flag).write(order, ends)
+        writer = Writer(body, self.names, flag)
+        lines = writer.write(order, ends)
         again = body_of(statements(lines, 1), flag)
         same = do_the_same(compiled, again.blocks)
         if not same or not Nest(Flows(again.blocks)).is_in_order([]):
             raise Fault(function.first + 1, f"{function.name} would do another thing: {OWN_FAULT}")
+        self._note_origins(function, writer.origins)
         return lines
+
+    def _note_origins(self, function: Function, origins: dict[int, Origin]) -> None:
+        """Keeps the origins of new lines. Those of a second layout lead to lines of the first one."""
+        first, before = function.first + 2, self.origins.get(function.name)
+        if before is not None:
+            origins = {
+                index: tuple(line for it in origin for line in before.get(it - first, (it,)))
+                for index, origin in origins.items()
+            }
+        self.origins[function.name] = origins
 
 
 def _is_mark(it: Statement) -> bool:

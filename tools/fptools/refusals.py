@@ -256,9 +256,22 @@ def key_of(place: str) -> KeyPath:
 
 def _section(refusal: Refusal, context: Context) -> Iterator[str]:
     key, hint = SECTION_HINTS[refusal.name]
+    if refusal.name == "NotHard" and _lacks_thread(context):
+        hint = f"no [[thread]] has id = {context.thread}: it starts asleep; add a table with mode = \"hard\" and an entry"
     where = _key_line(context, key) if key else None
     thread = "" if context.thread is None else f"T{context.thread}: "
     yield f"{where}: error: {thread}{hint}" if where else f"error: {thread}{hint}"
+
+
+def _lacks_thread(context: Context) -> bool:
+    """Whether the setup is known to have no table of the thread."""
+    if context.setup is None or context.thread is None:
+        return False
+    try:
+        setup: Setup = read_setup(context.setup)
+    except (OSError, TomlError):
+        return False
+    return all(it.get("id") != context.thread for it in setup.values.get("thread", []))
 
 
 def _key_line(context: Context, key: str) -> str | None:

@@ -137,6 +137,11 @@ def read_setup(path: Path) -> Setup:
     return Setup(path, values, dict(_lines_of(text)))
 
 
+def setup_of(path: Path, text: str) -> Setup:
+    """The setup that a text is, which is a TOML document."""
+    return Setup(path, tomllib.loads(text), dict(_lines_of(text)))
+
+
 def _lines_of(text: str) -> Iterator[tuple[KeyPath, int]]:
     """The paths of a text's keys and of its tables, with their lines."""
     counts: dict[str, int] = {}

@@ -53,7 +53,9 @@ exit "$RT_STATUS"
 
 NOT_BUILT = 125
 CRATES = "low:\nbeside:\nmiddle: low beside arrayvec\nflexpret_cli: middle\nflexpret_view: middle\nother: low\n"
-NO_OPTION = "no such option before the command; these are --quiet, --unproved, --use, --version and --help"
+NO_OPTION_OF_VIEW = "no such option before the command; these are --quiet, --unproved, --use, --version and --help"
+NO_OPTION = NO_OPTION_OF_VIEW.replace("--quiet,", "--quiet, --model,")
+UNPROVED = {"flexpret": "--model", "flexpret-view": "--unproved"}
 SELFRUN = ("selfrun", "1")
 TURNS = ("turns", "x.toml", "--from", "0", "--to", "9")
 
@@ -130,12 +132,14 @@ def either(tmp_path: Path, request: pytest.FixtureRequest) -> Checkout:
 def test_a_first_build_says_how_long_it_takes_and_which_crates_are_left(either: Checkout) -> None:
     ran = either.run(*either.words, given="in\n")
     first, *rest = ran.stderr.splitlines()
-    # Where there is a second processor, it gets jobs of the crates of the longest chain.
-    estimate = "2 minutes" if len(os.sched_getaffinity(0)) < 2 else "1 minute"
-    assert first == (
-        f"{either.script}: the program isn't built yet: 4 crates are proved first, in about {estimate};"
-        " for an answer now: --unproved, or python3 -m model"
+    found = re.fullmatch(
+        f"{either.script}: the program isn't built yet: 4 crates are proved first, in about (\\d+) minutes?;"
+        f" for an answer now, without a proof: {UNPROVED[either.script]}",
+        first,
     )
+    # Where there is a second processor, it gets jobs of the crates of the longest chain. A load makes it longer.
+    quiet = 2 if len(os.sched_getaffinity(0)) < 2 else 1
+    assert found and quiet <= int(found[1]) <= quiet * (3 + os.getloadavg()[0])
     assert rest[0].startswith(f"{either.script}: 0 of 4 crates proved; now ")
     assert re.search(r"now .*(low|beside).*; about \d+ minutes? left$", rest[0])
     assert rest[-1].startswith(f"{either.script}: 3 of 4 crates proved; now {either.out.parent.name}; about ")
@@ -168,6 +172,30 @@ def test_the_longest_chain_comes_first(checkout: Checkout) -> None:
     assert ran.stdout == "b True\n"
 
 
+def test_the_forecast_follows_the_load_and_proofs_that_take_longer(checkout: Checkout) -> None:
+    """In seconds: at load 0 and at load 8 on 2 processors; after a crate that took three times its estimate; and while one takes longer."""
+    for name, size in (("low", 100_000), ("beside", 100_000), ("middle", 100_000), ("flexpret_cli", 100_000)):
+        (checkout.folder / "crates" / name / "src/lib.rt").write_text(" " * size)
+    command = """import sys; sys.path.insert(0, 'tools')
+from fplaunch import build
+from pathlib import Path
+import time
+build.processors = lambda: 2
+def plan(load): return build.Plan(build.Checkout(Path('.'), 'flexpret_cli'), 2, load=load)
+quiet, busy, slow, late = plan(0.0), plan(8.0), plan(0.0), plan(0.0)
+print(round(busy.left() / quiet.left(), 1))
+slow.done['low'] = 3 * slow.weight['low']
+print(2 < slow.pace() < 3)
+late.running['flexpret_cli'] = time.monotonic() - 3000
+late.done = {it: late.weight[it] for it in ('low', 'beside', 'middle')}
+print(300 < late.left() < 700)
+shown = build.Progress('x', late, False); shown.terminal = False; shown.show()
+"""
+    ran = subprocess.run([sys.executable, "-c", command], cwd=checkout.folder, capture_output=True, text=True, check=True)
+    assert ran.stdout.split() == ["5.0", "True", "True"]
+    assert re.fullmatch(r"x: 3 of 4 crates proved; now flexpret_cli \(for 50 minutes\); about (8|9|10) minutes left\n", ran.stderr)
+
+
 def test_a_shorter_chain_yields_the_processors(checkout: Checkout) -> None:
     (checkout.folder / "crates.txt").write_text("a:\nb:\nc: b\nflexpret_cli: a c\n")
     for name, size in (("a", 20000), ("b", 100000), ("c", 100000)):
@@ -187,6 +215,30 @@ def test_a_proof_has_the_processors_that_no_other_crate_needs(checkout: Checkout
         words = [sys.executable, "-c", f"memory = {memory} << 30; {command}"]
         ran = subprocess.run(words, cwd=checkout.folder, capture_output=True, text=True, check=True)
         assert ran.stdout == f"{jobs}\n"
+
+
+def test_fp_plant_builds_its_program(checkout: Checkout) -> None:
+    """With forecast and progress, once; a failure is one line more, and status 2."""
+    (checkout.folder / "crates.txt").write_text(CRATES + "loop_cli: middle\n")
+    (checkout.folder / "crates/loop_cli/src").mkdir(parents=True)
+    (checkout.folder / "examples").symlink_to(TOP / "examples")
+
+    def called(**named: str) -> subprocess.CompletedProcess[str]:
+        words = ("examples/loop/motor.toml", "--thread", "0", "--every", "100", "--cycles", "1000", "--", "true")
+        environment = {**checkout.environment, "RT_PROGRAM": "#!/bin/sh\nexit 9\n", **named}
+        environment.pop("LOOP_CLI", None)
+        return subprocess.run(
+            [sys.executable, "tools/fp_plant", *words], cwd=checkout.folder, env=environment,
+            capture_output=True, text=True, check=False,
+        )  # fmt: skip
+
+    ran = called(RT_STATUS="1", RT_SAYS="error: x")
+    assert ran.returncode == 2 and ran.stderr.splitlines()[-1] == "fp_plant: without loop_cli there is no run"
+    ran = called()
+    assert re.match(r"fp_plant: loop_cli isn't built yet: 4 crates are proved first, in about \d+ minutes?\n", ran.stderr)
+    assert re.search(r"^fp_plant: 3 of 4 crates proved; now loop_cli; about ", ran.stderr, re.MULTILINE)
+    assert ran.stderr.splitlines()[-1] == "fp_plant: loop_cli ended with status 9" and ran.returncode == 2
+    assert called().stderr == "fp_plant: loop_cli ended with status 9\n"
 
 
 def test_nothing_is_built_twice_until_a_source_changes(either: Checkout) -> None:
@@ -594,6 +646,11 @@ def test_help_waits_for_no_build(either: Checkout, words: tuple[str, ...]) -> No
             "--from 0X10: an address is decimal, or 0x and one to eight hexadecimal digits, at most 0xffffffff",
         ),
         (
+            ("bound", "a", "--thread", "1", "--from", "period+8", "--to", "4"),
+            "--from period+8: an address is decimal, or 0x and one to eight hexadecimal digits, at most 0xffffffff; "
+            "a name needs --elf FILE or --map FILE",
+        ),
+        (
             ("check", "a", "--thread", "1", "--cycles", "1000001", "--trace", "t"),
             "--cycles 1000001: check compares at most 1000000 cycles",
         ),
@@ -643,7 +700,7 @@ def test_what_is_wrong_by_the_script_is_wrong_by_the_rows_of_the_gate() -> None:
     ("words", "said"),
     [
         ("", "no command is named; --help shows them"),
-        ("--nonsense a", f"--nonsense: {NO_OPTION}"),
+        ("--nonsense a", f"--nonsense: {NO_OPTION_OF_VIEW}"),
         ("turn a", "turn: no such command; the commands are turns and show"),
         ("turns a --from 1", "turns needs --to CYCLE"),
         ("turns --from 1 --to 2", "turns needs SETUP"),
@@ -1048,6 +1105,67 @@ def test_a_missing_package_is_one_line_and_a_status_of_its_own(checkout: Checkou
 # ---------------------------------------------------------------- an answer without a proof
 
 
+BY_MODEL = "flexpret: nothing of this answer is proved: the model in Python gives it\n"
+ASKED = ("run", "examples/drive.toml", "--thread", "0", "--cycles", "9")
+
+
+@pytest.mark.parametrize(
+    ("old", "new", "words", "why"),
+    [
+        ("id = 0", "id = 0", ("5", "99"), "T5 issues nothing in the first 99 cycles: no [[thread]] of it.toml has id = 5, so it sleeps"),
+        ('slots = ["T0"', 'slots = ["S"', ("0", "5000"), 'T0 issues nothing in the first 5000 cycles: it is hard, and no slot is "T0"'),
+        ("id = 0", "id = 0", ("0", "1"), "T0 issues nothing in the first 1 cycle: its first turn comes later"),
+        ('mode = "hard"', 'mode = "hard-asleep"', ("0", "0099"), "T0 issues nothing in the first 99 cycles: it starts asleep"),
+        ("id = 0", "id = 0", ("0", "99"), ""),
+    ],
+)  # fmt: skip
+def test_a_run_without_an_event_says_why(checkout: Checkout, old: str, new: str, words: tuple[str, str], why: str) -> None:
+    without_packages(checkout)
+    (checkout.folder / "it.toml").write_text((TOP / "examples/sum.toml").read_text().replace(old, new))
+    ran = checkout.run("--model", "run", "it.toml", "--thread", words[0], f"--cycles={words[1]}")
+    assert (ran.returncode, ran.stdout == "") == (0, bool(why)), ran.stderr
+    assert ran.stderr == BY_MODEL + (f"flexpret: {why}\n" if why else "")
+    assert checkout.run("--quiet", "--model", "run", "it.toml", "--thread", "5", "--cycles", "9").stderr == ""
+
+
+def test_an_answer_by_the_model(checkout: Checkout) -> None:
+    """It needs no kit, no build and no packages."""
+    without_packages(checkout)
+    (checkout.folder / "bin/rt").unlink()
+    model = str(checkout.folder / "tools/fp_model")
+    for words, more in ((("--model", *ASKED), {}), (ASKED, {"FLEXPRET": model}), (("--use", model, *ASKED), {})):
+        ran = checkout.run(*words, **more)
+        assert (ran.returncode, ran.stderr) == (0, BY_MODEL), words
+        assert ran.stdout.startswith("         0 00000000 ") and not checkout.log.exists()
+    assert checkout.run("--quiet", "--model", *ASKED).stderr == ""
+    ran = checkout.run("--model", "run", "examples/none.toml", "--thread", "0", "--cycles", "9")
+    assert ran.returncode == 7 and ran.stderr.startswith(f"{BY_MODEL}flexpret: read failed\nflexpret: examples/none.toml: ")
+    ran = checkout.run("--model", "run", "--thread", "9")
+    assert ran.returncode == 2 and ran.stderr.splitlines()[1] == "flexpret: --thread 9: threads are 0 to 7"
+    assert checkout.run("--model", "--version").stdout == "flexpret: the model in Python: nothing of its answers is proved\n"
+
+
+def test_the_model_stands_by_itself(checkout: Checkout, tmp_path_factory: pytest.TempPathFactory) -> None:
+    ran = checkout.run("--model", "--unproved", *ASKED)
+    said = "flexpret: --model is given with another way to the answer: --use or --unproved\n"
+    assert (ran.returncode, ran.stdout, ran.stderr) == (2, "", said)
+    view = Checkout(tmp_path_factory.mktemp("view"), "flexpret-view", "flexpret_view")
+    ran = view.run("--model", *TURNS)
+    assert (ran.returncode, ran.stderr) == (2, "flexpret-view: --model is for ./flexpret: the view has no model\n")
+
+
+def test_tools_ask_the_model(checkout: Checkout) -> None:
+    checkout.folder.joinpath("examples").symlink_to(TOP / "examples")
+    shutil.copytree(TOP / "model", checkout.folder / "model", ignore=shutil.ignore_patterns("tests", "__pycache__"))
+    words = ("fp_budget", "examples/c/pid.toml", "examples/c/budgets.toml", "--elf", "examples/c/pid.elf")
+    for more, named in (((), {"FLEXPRET": "tools/fp_model"}), (("--flexpret", "tools/fp_model"), {})):
+        ran = subprocess.run(
+            [sys.executable, f"tools/{words[0]}", *words[1:], *more], cwd=checkout.folder,
+            env={**checkout.environment, **named}, capture_output=True, text=True, check=False,
+        )  # fmt: skip
+        assert ran.stdout.startswith("holds    T0 a step of the controller: 352 of 400 cycles") and BY_MODEL in ran.stderr
+
+
 def test_an_answer_without_a_proof(checkout: Checkout, tmp_path_factory: pytest.TempPathFactory) -> None:
     folder = tmp_path_factory.mktemp("a call")
     (folder / "a.toml").write_text('version = 1\nimage = "../elsewhere/x.fpx" # there\n')
@@ -1129,9 +1247,9 @@ SCRIPTS_OPTIONS = ("-o", "--listing", "--map", "--elf", "--quiet")
 """The options behind a command that the script takes, or a tool."""
 
 
-@pytest.mark.parametrize("option", ["--quiet", "--unproved", "--use", "--version", "--help"])
+@pytest.mark.parametrize("option", ["--quiet", "--model", "--unproved", "--use", "--version", "--help"])
 def test_the_scripts_options_are_in_help_man_page_and_completion(option: str) -> None:
-    for name in ("flexpret", "flexpret-view"):
+    for name in ("flexpret", "flexpret-view") if option != "--model" else ("flexpret",):
         text = subprocess.run([TOP / name, "--help"], capture_output=True, text=True, check=True).stdout
         assert option in text
         assert option.replace("-", "\\-") in (TOP / f"tools/{name}.1").read_text()

@@ -14,7 +14,7 @@ from fptools.gdb_packets import (
     framed,
     unescaped,
 )
-from fptools.gdb_registers import CPU, CSR, OWN, PC, REGISTERS, spelled, target_description
+from fptools.gdb_registers import CPU, OWN, PC, REGISTERS, spelled, target_description
 from xml.etree import ElementTree
 
 
@@ -149,7 +149,7 @@ def test_the_target_description_numbers_the_registers() -> None:
     target = ElementTree.fromstring(target_description())
     assert target.findtext("architecture") == "riscv:rv32"
     features = {it.get("name"): list(it) for it in target.findall("feature")}
-    assert list(features) == [CPU, CSR, OWN]
+    assert list(features) == [CPU, OWN]
     numbered = {int(it.get("regnum", "")): it for regs in features.values() for it in regs}
     assert [numbered[at].get("name") for at in sorted(numbered)] == [it.name for it in REGISTERS]
     assert [numbered[at].get("name") for at in (0, 1, 2, 10, PC)] == [

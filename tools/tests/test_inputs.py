@@ -161,11 +161,28 @@ def test_an_output_that_can_not_be_written(output: str, tool: Tool, tmp_path: Pa
     assert ran.stderr.count("\n") == 1
 
 
+def test_inputs_that_are_there_are_replaced(tool: Tool, tmp_path: Path) -> None:
+    listed, setup = tmp_path / "a.csv", tmp_path / "it.toml"
+    listed.write_text("cycle,word\n0,1\n")
+    text = (TOP / "examples/drive.toml").read_text()
+    begin = text.index("inputs")
+    several = text[:begin] + "inputs = [   # these\n  [0, 7],\n\n  [9, 8]]  # and no others" + text[text.index("\n", begin) :]
+    for given in (text, several, several.replace("\n", "\r\n")):
+        setup.write_text(given, newline="")
+        ran = tool("fp_inputs", setup, listed, "--thread", 0, "--replace")
+        assert (ran.returncode, ran.stderr) == (0, "")
+        made, values = tomllib.loads(ran.stdout), tomllib.loads(given)
+        values["thread"][0]["inputs"] = [[0, 1]]
+        assert made == values and ran.stdout.count("inputs") == given.count("inputs")
+    ran = tool("fp_inputs", setup, listed, "--thread", 1, "--replace")
+    assert ran.returncode == 0 and "[[0, 1]]" in ran.stdout
+
+
 @pytest.mark.parametrize(
     ("setup", "thread", "line"),
     [
         ("examples/none.toml", 0, "[Errno 2] No such file or directory: 'examples/none.toml'"),
-        ("examples/drive.toml", 0, "examples/drive.toml:LINE: thread 0 has inputs: take them out"),
+        ("examples/drive.toml", 0, "examples/drive.toml:LINE: thread 0 has inputs: --replace takes them out"),
         ("examples/sum.toml", 7, "examples/sum.toml has no table of thread 7: add [[thread]] with id = 7"),
     ],
 )

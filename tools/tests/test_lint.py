@@ -51,6 +51,10 @@ def test_the_loop_without_noise_has_an_empty_slot(tool: Tool) -> None:
     [
         ("period = 10 ", "period = 10.0 ", "9: error: period: 10.0 is not of type 'integer'"),
         ("period = 10 ", "periode = 10 ", "1: error: period: 'period' is a required property"),
+        ("period = 10 ", "periode = 10 ", "1: error: top: 'periode' is no key of this table: is 'period' meant?"),
+        ("confined = true", "confind = true", "20: error: thread[0]: 'confind' is no key of this table: is 'confined' meant?"),
+        ("confined = true", "version = 2", "20: error: thread[0]: 'version' is no key of this table: it belongs to the top: write it above the first table"),
+        ("confined = true", "colour = 1", "20: error: thread[0]: 'colour' is no key of this table: the keys are id, mode, entry, confined, permit, unplug, inputs"),
         ('"S", "S", "S"', '"S", "S", "X"', "13: error: slots[3]: 'X' is not one of ['T0', 'T1', 'T2', 'T3', 'T4', 'T5', 'T6', 'T7', 'S', 'D']"),
         ("id = 0", "id = 8", "21: error: thread[0].id: 8 is greater than the maximum of 7"),
         ("confined = true", "confined = true\npermit = true", "25: error: thread[0].permit: not beside confined = true"),

@@ -188,6 +188,9 @@ def test_setups_and_sections(tool: Tool, tmp_path: Path) -> None:
     assert lines == [
         f'{setup}:22: error: T0: a bound and `solo` are of a thread that starts hard and awake: mode = "hard"'
     ]
+    lines = explained(tool, "refused section 1 NotHard", "--setup", setup, "--thread", "5")
+    hint = 'T5: no [[thread]] has id = 5: it starts asleep; add a table with mode = "hard" and an entry'
+    assert lines == [f"{setup}: error: {hint}"]
     assert explained(tool, "refused section 3 Order")[0].startswith("error: --to isn't above --from")
 
 
