@@ -7,12 +7,12 @@ at, as for return addresses."""
 from __future__ import annotations
 
 from dataclasses import dataclass, field, replace
-from typing import Mapping
+from typing import Callable, Mapping
 
 from fptools.elf import Program
-from fptools.section import Section, walk
+from fptools.section import Exit, Loop, Section, walk
 from fptools.turns import FUNCT3_GET_TIME
-from fptools.values import State, Value, after, joined, unknown
+from fptools.values import State, Value, adds, after, joined, unknown, written_by
 
 from fptools.words import (
     OPCODE_LOAD, OPCODE_STORE, OPCODE_TIMING, OPCODES_WITHOUT_RESULT, RETURN, Flow, Word,
@@ -52,6 +52,8 @@ class Called:
 
     image: Mapping[int, int]
     program: Program
+    # The most rounds of the loops of a function, by their heads, where they are known.
+    rounds: Callable[[Section], Mapping[int, int]] = lambda _: {}
     _found: dict[int, Effects] = field(default_factory=dict)
 
     def effects(self, start: int) -> Effects:
@@ -66,9 +68,7 @@ class Called:
         return self._found[start]
 
     def _of(self, part: Section) -> Effects:
-        if any(
-            word.flow is Flow.INDIRECT and word.bits != RETURN for word in part.reached.values()
-        ):
+        if any(it.exit not in (Exit.RETURN, Exit.TRAP) for it in part.ways_out):
             return ANYTHING
         first = unknown(part.start)
         before = self._before(part, first)
@@ -92,24 +92,59 @@ class Called:
         words: set[int] = set()
         lowest, is_anywhere = 0, False
         stack = first[STACK_POINTER].origin
+        pointers = self._pointers(part, before)
         for pc, word in part.reached.items():
             if word.opcode == OPCODE_STORE:
                 at = self._address(word, before[pc])
-                if at.origin is None:
-                    words.add(at.offset % 2**32 & ~3)
-                lowest = min(lowest, at.offset & ~3) if at.origin == stack else lowest
-                is_anywhere |= (
-                    at.origin != stack
-                    and at.origin is not None
-                    or at.origin == stack
-                    and at.offset >= 0
-                )
+                if at.origin == stack and at.offset < 0:
+                    lowest = min(lowest, at.offset & ~3)
+                elif at.origin is None or at.origin in pointers:
+                    starts = pointers[at.origin] if at.origin is not None else range(1)
+                    words |= {(it + at.offset) % 2**32 & ~3 for it in starts}
+                else:
+                    is_anywhere = True
             if word.flow is Flow.CALL and word.target is not None:
                 called, at = self.effects(word.target), before[pc].registers[STACK_POINTER]
                 words |= called.words
                 lowest = min(lowest, at.offset + called.lowest)
                 is_anywhere |= called.stores_anywhere or at.origin != stack
         return Effects(frozenset(), frozenset(words), lowest, is_anywhere, False)
+
+    def _pointers(self, part: Section, before: Mapping[int, Frame]) -> dict[tuple[int, int], range]:
+        """The values of registers at the heads of loops of so many rounds, where each round adds one
+        number to a register that is a number at first."""
+        found: dict[tuple[int, int], range] = {}
+        rounds = self.rounds(part)
+        for loop in (it for it in part.loops if it.head in rounds and it.is_natural):
+            body = [part.reached[pc] for pc in loop.body]
+            inner = {
+                pc for it in part.loops if it.head in loop.body - {loop.head} for pc in it.body
+            }
+            called = {at for it in body for at in self._changed_by(it)}
+            for step in (it for it in body if adds(it) and it.rs1 == it.rd and it.pc not in inner):
+                is_single = sum(written_by(it) == step.rd for it in body) == 1
+                if step.rd in called or not is_single or not step.immediate:
+                    continue
+                starts = self._entering(part, before, loop, step.rd)
+                if len(starts) == 1 and (first := starts.pop()) is not None:
+                    last = first + rounds[loop.head] * step.immediate
+                    found[loop.head, step.rd] = range(first, last, step.immediate)
+        return found
+
+    def _changed_by(self, word: Word) -> frozenset[int]:
+        """The registers that a call changes; none, for another word."""
+        is_call = word.flow is Flow.CALL and word.target is not None
+        return self.effects(word.target or 0).registers | {word.rd} if is_call else frozenset()
+
+    def _entering(
+        self, part: Section, before: Mapping[int, Frame], loop: Loop, register: int
+    ) -> set[int | None]:
+        """The numbers of a register where a loop is entered; None for what is no number."""
+        values = []
+        for pc in set(part.graph.predecessors(loop.head)) - loop.body:
+            frame = self._after(part.reached[pc], before[pc], unknown(part.start))
+            values.append(frame.registers[register])
+        return {it.offset if it.origin is None else None for it in values}
 
     def _before(self, part: Section, first: State) -> dict[int, Frame]:
         """What is known before each word of a function."""
@@ -119,7 +154,9 @@ class Called:
             pc = ahead.pop()
             frame = self._after(part.reached[pc], before[pc], first)
             for to in part.graph[pc]:
-                new = frame if to not in before else _joined(to, before[to], frame)
+                is_joined = to == part.start or part.graph.in_degree(to) > 1
+                is_new = to not in before or not is_joined
+                new = frame if is_new else _joined(to, before[to], frame)
                 if before.get(to) != new:
                     before[to] = new
                     ahead.append(to)

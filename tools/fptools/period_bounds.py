@@ -205,6 +205,12 @@ class PathBounds:
             self._parts[part.start] = asked, found
         return self._parts[part.start]
 
+    def rounds(self, part: Section) -> dict[int, int]:
+        """The most rounds of the loops of a function, by their heads: as its code counts or its
+        sources state."""
+        _, found = self._stated(part)
+        return {head: it.least + 1 for head, it in found.items() if it.least is not None}
+
     def _facts_of(self, part: Section) -> list[LoopFact]:
         """The loops of a called function."""
         asked, found = self._stated(part)

@@ -148,7 +148,7 @@ class Periods:
     @cached_property
     def _first(self) -> FirstWaits:
         names, thread = self.names, self.budget.thread
-        called = Called(names.image, names.program)
+        called = Called(names.image, names.program, self._path_bounds.rounds)
         moments = Moments(self.unfolded, self.judge.setup, thread, names.image, called)
         assert self._turns is not None
         return FirstWaits(self._path_bounds, moments, self._turns)

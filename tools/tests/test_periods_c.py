@@ -30,6 +30,8 @@ __attribute__((noinline)) static uint32_t work(uint32_t n)
 {
     for (int i = 0; i < 12; i++)      /* @rounds 12 */
         n = n * 3 + table[i];
+    for (int i = 15; i > 0; i--)      /* @rounds 15 */
+        table[i] = table[i - 1] + n;
     return n;
 }
 static uint64_t next;
@@ -175,6 +177,28 @@ def test_a_store_by_a_pointer_to_the_moment(tool: Tool, tmp_path: Path) -> None:
     body = "for (;;) { ((uint32_t *)&next)[FP_PORT & 1] += 3; tick(); }"
     status, text = Built(tool, tmp_path, f"{BEGIN}{body}\n}}\n").period("--ns", 20000)
     assert status == 0 and "moments 20000 ns apart" in text, text
+
+
+def test_a_loop_that_stores_over_the_moment(tool: Tool, tmp_path: Path) -> None:
+    """The words that a loop stores to are known by its rounds: here the moment is among them."""
+    source = """typedef uint32_t __attribute__((may_alias)) any_word;
+static struct { uint32_t words[4]; uint64_t next; } own;
+__attribute__((noinline)) static void changes(void)
+{
+    volatile any_word *word = (volatile any_word *)own.words;
+    for (int i = 0; i < ROUNDS; i++)      /* @rounds 6 */
+        word[i] += 4;
+}
+void main0(void)
+{
+    own.next = fp_get_time();
+    for (;;) { changes(); own.next += P; fp_wait_until(own.next); }
+}
+"""
+    for rounds, is_read in ((4, True), (5, False)):
+        built = Built(tool, tmp_path, source.replace("ROUNDS", str(rounds)))
+        status, text = built.period("--ns", 20000)
+        assert status == 0 and ("moments 20000 ns apart" in text) != is_read, text
 
 
 def test_a_period_by_its_function(tool: Tool, tmp_path: Path) -> None:
