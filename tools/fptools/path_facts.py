@@ -2,8 +2,8 @@
 from __future__ import annotations
 
 from collections import Counter
-from dataclasses import dataclass
-from typing import Any, Iterator
+from dataclasses import dataclass, replace
+from typing import Any, Iterator, Mapping
 
 from fptools.elf import Program
 from fptools.paths import Search, Step
@@ -50,18 +50,28 @@ class PathFacts:
     why_not: str = ""
 
 
-def facts_of(search: Search, bound: int, program: Program, sources: Sources) -> PathFacts:
-    """The path of a search, if it costs exactly the bound."""
+def facts_of(
+    search: Search,
+    bound: int,
+    program: Program,
+    sources: Sources,
+    origins: Mapping[int, int] | None = None,
+) -> PathFacts:
+    """The path of a search, if it costs exactly the bound. Words that are copies have origins."""
     cycles = search.longest.cycles
     if cycles != bound:
         why = f"this tool's search finds {cycles:,} cycles, and {bound:,} are proved: please report it"
         return PathFacts(cycles, why_not=why)
     steps = search.longest.steps()
-    lines = tuple(_lines(steps, program, sources))
+    origins = origins or {}
+    issued = Counter[Step]()
+    for step, number in steps.items():
+        issued[replace(step, pc=origins.get(step.pc, step.pc))] += number
+    lines = tuple(_lines(issued, program, sources))
     functions = Counter[str]()
     for line in lines:
         functions[line.function] += line.cycles
-    loops = tuple(_loops(steps, search, program))
+    loops = tuple(_loops(steps, search, program, origins))
     return PathFacts(cycles, tuple(functions.most_common()), lines, loops)
 
 
@@ -91,7 +101,9 @@ def _function(pc: int, program: Program) -> str:
     return function.name if function else program.name_of(pc).split("+")[0]
 
 
-def _loops(steps: Counter[Step], search: Search, program: Program) -> Iterator[PathLoop]:
+def _loops(
+    steps: Counter[Step], search: Search, program: Program, origins: Mapping[int, int]
+) -> Iterator[PathLoop]:
     """The loops that the path enters, by their heads."""
     for loop in sorted(search.loops, key=lambda it: it.head):
         to_head = [(step.pc, number) for step, number in steps.items() if step.to == loop.head]
@@ -99,9 +111,10 @@ def _loops(steps: Counter[Step], search: Search, program: Program) -> Iterator[P
         entries = sum(number for pc, number in to_head if not _is_in(pc, loop))
         entries += loop.head == search.first
         if entries:
-            where = f"{loop.head:#x} {program.name_of(loop.head)}".rstrip()
-            line = program.line_of(loop.head)
-            yield PathLoop(where + (f" ({line})" if line else ""), loop.head, entries, backs)
+            head = origins.get(loop.head, loop.head)
+            where = f"{head:#x} {program.name_of(head)}".rstrip()
+            line = program.line_of(head)
+            yield PathLoop(where + (f" ({line})" if line else ""), head, entries, backs)
 
 
 def _is_in(pc: int, loop: LoopTable) -> bool:

@@ -12,8 +12,11 @@ from fptools.image import write_image
 from fptools.loops import StatedLoop
 from fptools.names import MOST_LOOPS, Names, toml_of
 from fptools.wait_paths import Node, Paths
+from fptools.path_facts import PathFacts, facts_of
+from fptools.paths import Search
 from fptools.placed import Placed, PlacedLoop, Placer
 from fptools.section import Exit, Section, walk, walk_all
+from fptools.setup import Setup
 from fptools.unfolded import NotUnfolded, Place, Unfolded, is_wait
 from fptools.words import Flow
 
@@ -35,6 +38,8 @@ class PathBounds:
     loops: dict[int, LoopFact] = field(default_factory=dict)
     notes: list[str] = field(default_factory=list)
     functions: dict[int, str] = field(default_factory=dict)
+    # By the place where they begin and the next wait: paths that cost the bounds.
+    witnesses: dict[tuple[Place, Place], PathFacts] = field(default_factory=dict)
     _cycles: dict[tuple[Place, bool, Node], int] = field(default_factory=dict)
     _paths: dict[tuple[Place, bool], Paths] = field(default_factory=dict)
     _parts: dict[int, tuple[Asked, dict[int, StatedLoop]]] = field(default_factory=dict)
@@ -75,7 +80,10 @@ class PathBounds:
             tables |= {(it.head, it.last, it.bound) for it in self._facts_of(part)}
         if len(tables) > MOST_LOOPS:
             raise Unknown(f"{len(tables)} loops, of {MOST_LOOPS} at most that a setup may have")
-        return self._written(placed, called, sorted(tables))
+        bound = self._written(placed, called, sorted(tables))
+        if self.judge.has_paths:
+            self._keep(paths.begin, end.place, bound, placed)
+        return bound
 
     def _look_at_delays(self, paths: Paths, graph: Iterable[Node]) -> None:
         for node in graph:
@@ -165,10 +173,23 @@ class PathBounds:
         except NoAnswer:
             raise Unknown(text) from None
         if isinstance(found, Bound):
+            if self.judge.has_paths:
+                parts = walk_all({**words, **placed.words}, placed.start, placed.end, called)
+                searched = {**words, **placed.words}
+                self._search = Search(Setup(path, values, {}), self.budget.thread, searched, parts)
             return found.cycles
         place = placed.of.get(found.address or 0)
         at = place.pc if place is not None else found.address
         raise Unknown(self.judge.refusal(found, text, at))
+
+    def _keep(self, begin: Place, wait: Place, bound: int, placed: Placed) -> None:
+        """Keeps the path that costs a bound, the longest one to a wait."""
+        known = self.witnesses.get((begin, wait))
+        if known is None or known.cycles < bound:
+            origins = {at: place.pc for at, place in placed.of.items()}
+            self.witnesses[begin, wait] = facts_of(
+                self._search, bound, self.names.program, self.names.sources, origins
+            )
 
     def _words_of(self, part: Section) -> Iterable[tuple[int, int]]:
         return ((pc, bits) for pc, bits in self.judge.image.items() if part.start <= pc < part.end)

@@ -302,6 +302,7 @@ class Periods:
             loops,
             functions,
             stack=asked.stack,
+            path=bounds.witnesses.get((most.begin, most.end)),
             waits=waits,
         )
 

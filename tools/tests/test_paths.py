@@ -189,3 +189,14 @@ def test_the_path_of_a_shipped_example(asking: Tool) -> None:
         json.loads(asking(*words, *section[:-1], *assumed, "--json").stdout)["results"][0]["path"]
         is None
     )
+
+
+def test_the_path_of_a_period(asking: Tool) -> None:
+    words = ("fp_budget", "examples/c/pid.elf", "--setup", "examples/c/pid.toml", "--thread", "0")
+    assumed = ("--assume", "no traps", "--assume", "loop tables")
+    ran = asking(*words, "--period", *assumed, "--path", "--json")
+    (result,) = json.loads(ran.stdout)["results"]
+    path = result["path"]
+    assert path["cycles"] == result["bound"] == sum(it["cycles"] for it in path["lines"])
+    assert [(it["head"], it["backs"]) for it in path["loops"]] == [(0xF0, 7)]
+    assert "step_end" in {it["place"].split()[-1] for it in path["lines"]}
