@@ -9,6 +9,7 @@ from fptools.assembly import TRAPS, Assembly, Fault, Function, Kind, Statement, 
 from fptools.blocks import Block, Body, body_of, skip_jumps
 from fptools.copies import rotate, split_ends, split_entries
 from fptools.emission import Names, Writer, as_compiled, ends_of, mark_far
+from fptools.loop_marks import check_marks, with_records
 from fptools.regions import MOST_AROUND, Flows, Irreducible, Loop, Nest, NoOrder, Order, Section
 from fptools.same_flow import do_the_same
 
@@ -73,7 +74,8 @@ class Laid:
 
 
 def lay_out(assembly: Assembly, options: Options = Options()) -> Laid:
-    """Lays out all functions. Raises Fault."""
+    """Lays out all functions, and replaces loop marks by records. Raises Fault."""
+    check_marks(assembly.text)
     return _Layout(assembly, options).run()
 
 
@@ -133,7 +135,7 @@ class _Layout:
             except Stays as why:
                 self.laid.kept.append(Message(why.line, f"{function.name} stays as it is: {why.why}"))
                 out += self.assembly.body(function)
-        self.laid.text = "\n".join(out + self.assembly.lines[done:])
+        self.laid.text = with_records("\n".join(out + self.assembly.lines[done:]))
         return self.laid
 
     # ------------------------------------------------------------ sections
