@@ -2,7 +2,13 @@
 
 A mark is a `nop` with a comment. Without the `nop` several places have one address, and a jump may lead right behind the
 mark. So a record says which edges pass the mark: all that lead to its address, or only the one from the word before.
-Where neither is true, the `nop` stays, and so it does next to an asm that isn't read as plain instructions and labels."""
+Where neither is true, the `nop` stays, and so it does next to an asm that isn't read as plain instructions and labels.
+
+A record has seven words and three strings, each with a zero behind it: the mark's address; its kind, 0 for FP_LOOP or 1 for
+FP_ROUND, plus 0x100 if only the edge from the word before passes it; its number, line and n; its unit and function; and its
+order among the marks of the unit. The strings are its name, its file, and, with FP_FLOW_DIRECT, its unit. Here the unit is a
+checksum of the assembly, in exclusive or with the function's. With FP_FLOW_DIRECT it is 0, the third string has FP_FLOW_DIRECT
+and the unit's main file, and `.fp_flow_units` has that string once for each unit: two equal ones can't be told apart."""
 from __future__ import annotations
 
 import re
