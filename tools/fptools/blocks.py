@@ -181,6 +181,7 @@ class Reader:
         self.source: SourceLine | None = None
         self.frame = Frame()
         self.frames: list[Frame] = []  # of `.cfi_remember_state`
+        self.files: list[str] = []
         self.lost_frame = ""  # the first unknown directive of a frame
         for statement in self.statements:
             self._take(statement)
@@ -254,6 +255,8 @@ class Reader:
             raise Stays(it.line, f"an asm has `{it}`")
         if it.name == ".loc":
             self._line(it)
+        elif it.name == ".file":
+            self.files.append(it.text)
         elif it.name.startswith(".cfi_"):
             try:
                 self._frame(it)
@@ -364,6 +367,7 @@ class Body:
     behind: list[Item]  # after the last block
     source: SourceLine | None  # at the end
     lost_frame: str
+    files: list[str]  # the `.file` among its code, which come before each `.loc` that uses them
 
     def kept(self) -> list[Block]:
         """A copy of the blocks, which later changes don't reach."""
@@ -397,7 +401,7 @@ def body_of(statements: Iterable[Statement], is_statement: bool = True) -> Body:
         elif block.stop is None and index + 1 < len(blocks):
             block.onward = index + 1
     behind = [it for it in reader.pending if it.part is not Part.FRAME]
-    return Body(_with_entry(blocks), behind, reader.source, reader.lost_frame)
+    return Body(_with_entry(blocks), behind, reader.source, reader.lost_frame, reader.files)
 
 
 def _with_entry(blocks: list[Block]) -> list[Block]:

@@ -110,6 +110,7 @@ class Writer:
     def write(self, order: Sequence[int], ends: Sequence[End]) -> list[str]:
         blocks = self.body.blocks
         labels = {index: self.names.of(blocks[index]) for end in ends for index in self._named(end)}
+        self.lines += self.body.files
         for index, end in zip(order, ends):
             self._block(blocks[index], bool(end.size))
             self._end(end, labels)

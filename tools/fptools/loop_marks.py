@@ -1,14 +1,18 @@
-"""Replaces the loop marks FP_LOOP and FP_ROUND in compiled assembly by records of the section `.fp_flow`.
+"""Replaces the loop marks FP_LOOP and FP_ROUND in compiled assembly by records of the section
+`.fp_flow`.
 
-A mark is a `nop` with a comment. Without the `nop` several places have one address, and a jump may lead right behind the
-mark. So a record says which edges pass the mark: all that lead to its address, or only the one from the word before.
-Where neither is true, the `nop` stays, and so it does next to an asm that isn't read as plain instructions and labels.
+A mark is a `nop` with a comment. Without the `nop` several places have one address, and a jump
+may lead right behind the mark. So a record says which edges pass the mark: all that lead to its
+address, or only the one from the word before. Where neither is true, the `nop` stays, and so it
+does next to an asm that isn't read as plain instructions and labels.
 
-A record has seven words and three strings, each with a zero behind it: the mark's address; its kind, 0 for FP_LOOP or 1 for
-FP_ROUND, plus 0x100 if only the edge from the word before passes it; its number, line and n; its unit and function; and its
-order among the marks of the unit. The strings are its name, its file, and, with FP_FLOW_DIRECT, its unit. Here the unit is a
-checksum of the assembly, in exclusive or with the function's. With FP_FLOW_DIRECT it is 0, the third string has FP_FLOW_DIRECT
-and the unit's main file, and `.fp_flow_units` has that string once for each unit: two equal ones can't be told apart."""
+A record has seven words and three strings, each with a zero behind it: the mark's address; its
+kind, 0 for FP_LOOP or 1 for FP_ROUND, plus 0x100 if only the edge from the word before passes
+it; its number, line and n; its unit and function; and its order among the marks of the unit. The
+strings are its name, its file, and, with FP_FLOW_DIRECT, its unit. Here the unit is a checksum
+of the assembly, in exclusive or with the function's. With FP_FLOW_DIRECT it is 0, the third
+string has FP_FLOW_DIRECT and the unit's main file, and `.fp_flow_units` has that string once for
+each unit: two equal ones can't be told apart."""
 from __future__ import annotations
 
 import re
@@ -31,10 +35,12 @@ PLAIN_TARGET = re.compile(r"[A-Za-z_.$][\w.$]*|\d+[fb]")
 """The target of a jump of an asm: a label, and nothing added to it."""
 
 VANISHES = re.compile(r"%(hi|pcrel_hi|got_pcrel_hi|tprel_hi|tprel_add|tls_\w+)\b")
-"""In the operands of an instruction that a linker may delete: the places around it may get one address."""
+"""In the operands of an instruction that a linker may delete: the places around it may get one
+address."""
 
 SILENT = re.compile(
-    r"\.(loc|file|cfi_\w+|size|type|globl|global|local|weak|hidden|ident|addrsig\w*|attribute|option|p2align|align|balign)$"
+    r"\.(loc|file|cfi_\w+|size|type|globl|global|local|weak|hidden|ident|addrsig\w*|attribute|option"
+    r"|p2align|align|balign)$"
 )
 """Directives without a place or a label of their own. Padding for alignment may be empty."""
 
@@ -46,7 +52,9 @@ OPENS = re.compile(r"\.(if\w*|macro|rept|irpc?)$")
 CLOSES = re.compile(r"\.end(if|m|r)$")
 """Directives around statements that the assembler may leave out or repeat."""
 
-HIDES = re.compile(r"\.(if\w*|else\w*|end(if|m|r)|macro|altmacro|purgem|rept|irpc?|include|equ|set|org)$")
+HIDES = re.compile(
+    r"\.(if\w*|else\w*|end(if|m|r)|macro|altmacro|purgem|rept|irpc?|include|equ|set|org)$"
+)
 """With such a directive other statements may not be what they seem."""
 
 UNKNOWN = "?"
@@ -82,7 +90,8 @@ class Token:
 
 @dataclass(frozen=True)
 class Sight:
-    """The labels beside a mark: since the instruction before it, that instruction, and up to the next one."""
+    """The labels beside a mark: since the instruction before it, that instruction, and up to the
+    next one."""
 
     before: frozenset[str]
     last: str
@@ -90,9 +99,15 @@ class Sight:
     is_closed: bool  # an instruction of the function follows
 
     def keeps(self) -> bool:
-        """Whether the `nop` stays: some ways to the next instruction pass the mark, others don't."""
-        leads_there = self.behind & set(NAME.findall(self.last)) or any(it.isdigit() for it in self.behind)
-        return not self.is_closed or UNKNOWN in self.behind or bool(self.behind and (self.before or leads_there))
+        """Whether the `nop` stays: some edges to the next instruction pass it, others don't."""
+        leads_there = self.behind & set(NAME.findall(self.last)) or any(
+            it.isdigit() for it in self.behind
+        )
+        return (
+            not self.is_closed
+            or UNKNOWN in self.behind
+            or bool(self.behind and (self.before or leads_there))
+        )
 
 
 class Reader:
@@ -102,9 +117,9 @@ class Reader:
         self.lines = lines
         self.statements = list(statements(lines, 1))
         self.led_to = self._led_to()
-        self.hides = any(it.kind is Kind.DIRECTIVE and HIDES.match(it.name) for it in self.statements) or any(
-            "/*" in _bare(line) for line in lines
-        )
+        self.hides = any(
+            it.kind is Kind.DIRECTIVE and HIDES.match(it.name) for it in self.statements
+        ) or any("/*" in _bare(line) for line in lines)
         self.unclear = self._unclear()
         self.marks = dict(self._marks())
 
@@ -121,7 +136,10 @@ class Reader:
                 if mark is None:
                     raise Fault(number, f"a loop mark that can't be read: `{line.strip()}`")
                 if depth or is_comment:
-                    raise Fault(number, f"{mark[6]}: an asm before it has a directive or a comment that isn't closed")
+                    raise Fault(
+                        number,
+                        f"{mark[6]}: a directive or a comment of an asm before it isn't closed",
+                    )
                 yield number, mark
             for it in by_line.get(number, []):
                 depth += bool(OPENS.match(it.name)) - bool(CLOSES.match(it.name))
@@ -134,7 +152,11 @@ class Reader:
         for it in self.statements:
             if it.kind is Kind.DIRECTIVE and SECTION.match(it.name):
                 section = it.rest.split(",")[0] if it.name.endswith("section") else it.name
-            elif it.kind is not Kind.LABEL and not SILENT.match(it.name) and not section.startswith(NO_CODE):
+            elif (
+                it.kind is not Kind.LABEL
+                and not SILENT.match(it.name)
+                and not section.startswith(NO_CODE)
+            ):
                 found |= set(NAME.findall(f"{it.name} {STRING.sub('', it.rest)}"))
         return frozenset(found)
 
@@ -143,7 +165,11 @@ class Reader:
         found: set[int] = set()
         group: list[Statement] = []
         for it in [*self.statements, None]:
-            if it is not None and it.by_hand and (not group or self._are_together(group[-1].line, it.line)):
+            if (
+                it is not None
+                and it.by_hand
+                and (not group or self._are_together(group[-1].line, it.line))
+            ):
                 group.append(it)
                 continue
             if not all(map(_is_plain, group)):
@@ -152,8 +178,11 @@ class Reader:
         return frozenset(found)
 
     def _are_together(self, one: int, other: int) -> bool:
-        """Whether two statements by hand may be of one asm: nothing of the compiler is between them."""
-        return all(line.strip().startswith("#") or not line.strip() for line in self.lines[one : other - 1])
+        """Whether two statements by hand may be of one asm: nothing of the compiler is between
+        them."""
+        return all(
+            line.strip().startswith("#") or not line.strip() for line in self.lines[one : other - 1]
+        )
 
     def tokens(self) -> list[Token]:
         """All statements and marks in order."""
@@ -172,7 +201,11 @@ class Reader:
 
     def _place(self, it: Statement) -> Place:
         if it.kind is Kind.LABEL:
-            is_known = it.name.startswith(".L") and it.name not in self.led_to and it.line not in self.unclear
+            is_known = (
+                it.name.startswith(".L")
+                and it.name not in self.led_to
+                and it.line not in self.unclear
+            )
             return Place.NOTHING if is_known else Place.LABEL
         if it.line in self.unclear:
             return Place.UNKNOWN
@@ -180,7 +213,9 @@ class Reader:
             if it.name == ".size" or SECTION.match(it.name):
                 return Place.END
             return Place.NOTHING if SILENT.match(it.name) else Place.UNKNOWN
-        return Place.WORD if _flow(it) is not None and not VANISHES.search(it.rest) else Place.UNKNOWN
+        return (
+            Place.WORD if _flow(it) is not None and not VANISHES.search(it.rest) else Place.UNKNOWN
+        )
 
 
 def _bare(line: str) -> str:
@@ -204,18 +239,23 @@ def _flow(it: Statement) -> Flow | None:
 
 
 def _is_plain(it: Statement) -> bool:
-    """Whether a statement of an asm is a label, an instruction that goes on, or a jump to a label."""
+    """Whether a statement of an asm is a label, a plain instruction, or a jump to a label."""
     if it.kind is Kind.LABEL:
         return True
     if it.kind is Kind.DIRECTIVE and it.name != ".insn":
         return bool(SILENT.match(it.name))
     flow = _flow(it)
     target = it.rest.rpartition(",")[2].strip()
-    return flow in (Flow.ON, Flow.CALL) or flow in (Flow.BRANCH, Flow.JUMP) and bool(PLAIN_TARGET.fullmatch(target))
+    return (
+        flow in (Flow.ON, Flow.CALL)
+        or flow in (Flow.BRANCH, Flow.JUMP)
+        and bool(PLAIN_TARGET.fullmatch(target))
+    )
 
 
 def _sights(tokens: list[Token]) -> dict[int, Sight]:
-    """What is beside each mark, by its place in the tokens. A mark that keeps its `nop` is an instruction for the next one."""
+    """What is beside each mark, by its place in the tokens. A mark that keeps its `nop` is an
+    instruction for the next one."""
     found: dict[int, Sight] = {}
     before: set[str] = set()
     last = ""
@@ -266,7 +306,9 @@ def with_records(text: str) -> str:
             continue
         sight = sights[number]
         keeps = reader.hides or sight.keeps()
-        out += _record(number, mark, Passes.FALL if sight.behind and not keeps else Passes.ALL, unit, keeps)
+        out += _record(
+            number, mark, Passes.FALL if sight.behind and not keeps else Passes.ALL, unit, keeps
+        )
     return "\n".join(out)
 
 
@@ -274,12 +316,13 @@ def _record(number: int, mark: re.Match[str], passes: Passes, unit: int, keeps: 
     """The lines of a record, with the `nop` if it stays."""
     kind, own, line, most, function, name, file = mark.groups()
     label = f".Lfp_flow{number}"
+    numbers = f"{own}, {line}, {most}, {unit ^ int(function):#x}, {number}"
     return [
         f"{label}:",
         *(["\tnop"] if keeps else []),
         # In the group and with the section of its function: a linker drops it with these.
         f'\t.pushsection .fp_flow,"?o",@progbits,{label}',
-        f"\t.4byte {label}, {int(kind) | passes.value << 8}, {own}, {line}, {most}, {unit ^ int(function):#x}, {number}",
+        f"\t.4byte {label}, {int(kind) | passes.value << 8}, {numbers}",
         f'\t.asciz "{name}", "{file}", ""',
         "\t.popsection",
     ]

@@ -144,6 +144,15 @@ def test_a_jump_to_itself_and_an_empty_function_stay() -> None:
     for code in (".L2:\n\tj\t.L2\n", ""):
         assert laid(code).text == HEAD + function(code)
 
+def test_a_file_of_the_line_table_comes_before_each_line_of_it() -> None:
+    """clang writes it before the first use, and the block with that use may be moved back."""
+    files = '\t.file\t1 "code.c"\n', '\t.file\t2 "." "other.h" md5 0x0123456789abcdef0123456789abcdef\n'
+    code = LOOP_AT_END.replace(".L3:\n", f".L3:\n{files[1]}\t.loc 2 5 3\n")
+    code = code.replace(".L2:\n", ".L2:\n\t.loc 2 6 3\n").replace("\tj\t.L2\n", "\t.loc 1 4 2\n\tj\t.L2\n")
+    lines = laid(files[0] + code).text.splitlines(True)
+    first = next(k for k, line in enumerate(lines) if ".loc 2 " in line)
+    assert lines.count(files[1]) == 1 and lines.index(files[1]) < first
+
 
 # ---------------------------------------------------------------- far branches
 
