@@ -100,6 +100,7 @@ class Program:
         self.symbols: list[tuple[int, str]] = []
         self.knows_functions = True  # whether it is known which functions were inlined, and which have no code
         self._files: list[str] = []  # the names of its sources, or of its objects
+        self.has_local_symbols = False  # whether names are kept that are local to a source
         if path is None:
             return
         from fptools.pyelf import FAULTS, ELFError, ELFFile
@@ -132,6 +133,8 @@ class Program:
             at, size, kind = symbol["st_value"], symbol["st_size"], symbol["st_info"]["type"]
             if kind == "STT_FILE":
                 self._files.append(symbol.name)
+            is_local = symbol["st_info"]["bind"] == "STB_LOCAL" and kind not in ("STT_SECTION", "STT_FILE")
+            self.has_local_symbols |= is_local and bool(symbol.name)
             is_label = kind == "STT_NOTYPE" and not symbol.name.startswith((".L", "$"))
             if symbol["st_shndx"] == "SHN_UNDEF" or not symbol.name or at >= CODE_END:
                 continue
@@ -139,6 +142,19 @@ class Program:
                 self.symbols.append((at, symbol.name))
             if kind == "STT_FUNC" and size:
                 self.functions.append(Function(at, at + size, symbol.name))
+
+    def section_data(self, name: str) -> bytes:
+        """The bytes of a section of the file; none where it has no such section."""
+        if self.path is None:
+            return b""
+        from fptools.pyelf import FAULTS, ELFError, ELFFile
+
+        try:
+            with self.path.open("rb") as file:
+                section = ELFFile(file).get_section_by_name(name)
+                return b"" if section is None else bytes(section.data())
+        except (ELFError, *FAULTS) as fault:
+            raise ProgramError(f"{self.path} is a broken ELF file: {fault}") from fault
 
     @property
     def has_functions(self) -> bool:
@@ -266,6 +282,11 @@ class Program:
     def is_shared(self, address: int) -> bool:
         """Whether a word is of several functions, as a linker may fold those of the same code."""
         return sum(piece[0][0] <= address < piece[-1][0] for piece in self._pieces) > 1
+
+    @property
+    def has_lines(self) -> bool:
+        """Whether it has line tables (-g)."""
+        return bool(self._lines)
 
     @cached_property
     def _lines(self) -> list[Row]:
