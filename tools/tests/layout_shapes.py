@@ -60,6 +60,7 @@ class Way:
     rotate: int = 0
     is_clang: bool = False
     more: tuple[str, ...] = ()
+    is_marked: bool = False  # with loop marks
 
     def __str__(self) -> str:
         kind = "section" if self.is_section else "calls"
@@ -70,6 +71,7 @@ class Way:
     def compiler(self) -> list[str]:
         flags = [self.level, "-ffreestanding", "-fno-jump-tables", "-fno-optimize-sibling-calls", *self.more]
         flags += ["-I", str(DATA), "-I", str(TOP / "examples/c")] + ["-DSECTION"] * self.is_section
+        flags += ["-DUNMARKED"] * (not self.is_marked)
         return [*CLANG, *flags] if self.is_clang else [*GCC, *flags, RECIPE[2]]
 
     def assembler(self) -> tuple[str, ...]:
