@@ -22,7 +22,7 @@ from model.graphs import Graph, Part  # noqa: E402
 from model.setups import Loop, read_setup  # noqa: E402
 
 DATA = Path(__file__).resolve().parent / "data" / "layout"
-SHAPES = sorted(it.stem for it in DATA.glob("*.c") if it.stem != "quick_run")
+SHAPES = sorted({it.stem for it in DATA.glob("*.c")} - {"quick_run", "loop_run"})
 BATCHES = (SHAPES[::2], SHAPES[1::2])
 """Shapes that fit into an image together."""
 
