@@ -220,6 +220,67 @@ def test_units_of_one_file_name_differ(tmp_path: Path) -> None:
     assert [len(it) for it in found] == [1, 1] and found[0] != found[1]
 
 
+# ---------------------------------------------------------------- assembler
+
+ASSEMBLER = """\
+#include "flexpret.h"
+        .text
+        .type   fill, @function
+fill:   FP_LOOP(word, 16)
+        li      t1, 16
+again:  FP_ROUND(word)
+        addi    t1, t1, -1
+        bnez    t1, again
+        FP_LOOP(word, 4 + 3)
+        li      t1, 7
+2:      FP_ROUND(word)
+        addi    t1, t1, -1
+        bnez    t1, 2b
+        ret
+        .size   fill, . - fill
+"""
+
+
+def assembled(
+    compiler: list[str], folder: Path, text: str, *options: str
+) -> subprocess.CompletedProcess[str]:
+    (folder / "x.S").write_text(text)
+    command = [*compiler, "-I", str(HEADER), *options, "-c", "-o", str(folder / "out"), "x.S"]
+    return subprocess.run(command, cwd=folder, capture_output=True, text=True, check=False)
+
+
+@pytest.mark.parametrize("compiler", [GCC, CLANG], ids=name_of)
+@pytest.mark.parametrize("number", [None, 3])
+def test_marks_of_assembler(tmp_path: Path, compiler: list[str], number: int | None) -> None:
+    """Each mark is of the instruction behind it, and adds none."""
+    options = [] if number is None else [f"-DFP_FLOW_DIRECT={number}"]
+    assert assembled(compiler, tmp_path, ASSEMBLER, *options).returncode == 0
+    found = records(tmp_path / "out")
+    marks = [(it.kind, it.number, it.line, it.most, it.name, it.file) for it in found]
+    loops = [(0, 1, 4, 16, "word", "x.S"), (0, 2, 9, 7, "word", "x.S")]
+    assert marks == [loops[0], (1, *loops[0][1:]), loops[1], (1, *loops[1][1:])]
+    unit = f"{number or 1}:x.S"
+    assert {it.main_file for it in found} == {unit}
+    with (tmp_path / "out").open("rb") as file:
+        elf = ELFFile(file)
+        assert elf.get_section_by_name(".fp_flow_units").data() == unit.encode() + b"\0"
+        assert elf.get_section_by_name(".text").data_size == 7 * 4
+
+
+BAD_ASSEMBLER = {
+    "FP_LOOP(x, 0)": "n is at least 1",
+    "FP_LOOP(x, 1048577)": "n is 1,048,576 at most",
+    "FP_ROUND(y)": "no FP_LOOP of this name is before it",
+}
+
+
+@pytest.mark.parametrize("compiler", [GCC, CLANG], ids=name_of)
+@pytest.mark.parametrize("bad", BAD_ASSEMBLER)
+def test_what_the_assembler_refuses(tmp_path: Path, compiler: list[str], bad: str) -> None:
+    made = assembled(compiler, tmp_path, f"{ASSEMBLER}\n{bad}\n")
+    assert made.returncode != 0 and BAD_ASSEMBLER[bad] in made.stderr
+
+
 # ---------------------------------------------------------------- edges
 
 HEAD = '\t.file\t"code.c"\n\t.option nopic\n\t.attribute arch, "rv32i2p1_m2p0_zicsr2p0"\n\t.text\n'
