@@ -82,6 +82,7 @@ class Result:
     functions: tuple[str, ...] = ()
     executions: int | None = None  # how many a run had; None without a run
     longest: int | None = None  # the cycles of the longest of them
+    is_broken: bool = False  # whether a run broke a claim of its loops
 
     @property
     def note(self) -> str | None:
@@ -96,7 +97,9 @@ class Result:
     def word(self) -> str:
         if self.verdict is Verdict.HOLDS:
             return "bound" if self.budget.cycles is None else "holds"
-        return "OVER" if self.verdict is Verdict.OVER else "UNKNOWN"
+        if self.verdict is Verdict.OVER:
+            return "BROKEN" if self.is_broken else "OVER"
+        return "UNKNOWN"
 
     def __str__(self) -> str:
         return f"{self.word:<8} {self.budget}: {self.text}"

@@ -5,6 +5,7 @@ from dataclasses import dataclass, replace
 from typing import Mapping, Sequence
 
 from fptools.budget_files import Result, Verdict
+from fptools.claim_runs import marks_for
 from fptools.elf import Program, ProgramError
 from fptools.observed import Kind, Observation, question_of, run_and_observe
 from fptools.observed_text import Text
@@ -58,7 +59,8 @@ class Runs:
         return found
 
     def _observed(self, thread: int, watched: Sequence[Watched], results: Sequence[Result]) -> Observation:
-        question = question_of(self.setup, thread, watched, self.image)
+        marks = marks_for(self.program, self.image)
+        question = question_of(self.setup, thread, watched, self.image, marks)
         if self.is_of_names:
             facts = {(it.head, it.last): it.bound for result in results for it in result.loops}
             question = replace(
@@ -91,6 +93,10 @@ class Runs:
         slowest, most = seen.slowest, result.budget.cycles
         if slowest is not None:
             result = replace(result, executions=seen.count, longest=slowest[0])
+        claims = self._broken_claims(observation, seen)
+        if claims:
+            text = f"{'; '.join(claims)}; {result.text}"
+            return replace(result, verdict=Verdict.OVER, text=text, is_broken=True)
         if slowest is not None and most is not None and slowest[0] > most:
             longest = seen.longest
             kinds = {id(seen.interrupted): " with a trap", id(seen.detours): " that leaves the section"}
@@ -106,6 +112,21 @@ class Runs:
         return replace(
             result, text=f"{result.text}; the longest of {seen.count} executions takes {slowest[0]}"
         )
+
+    def _broken_claims(self, observation: Observation, seen: Executions) -> list[str]:
+        """The claims with marks in the section, or in a function, that a run broke."""
+        marks = observation.question.marks
+        parts = ((seen.watched.start, seen.watched.end), *seen.watched.routines)
+        own = {
+            mark.claim
+            for mark in (marks.all if marks else [])
+            if self.is_of_functions or any(start <= mark.at < end for start, end in parts)
+        }
+        return [
+            f"{it}: the run broke the claim in cycle {it.broken_at}"
+            for it in observation.claims
+            if it.is_broken and it.claim in own
+        ]
 
     def _broken(self, observation: Observation, seen: Executions) -> str | None:
         """Which table of the section's loops a run broke, or that it broke the bound."""

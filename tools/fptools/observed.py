@@ -13,6 +13,8 @@ from itertools import chain
 from pathlib import Path
 from typing import IO, Collection, Iterator, Mapping, Sequence
 
+from fptools.claim_runs import ClaimMeter, Passes
+from fptools.flow_records import Marks
 from fptools.trace_blocks import Block, BrokenTrace, Progress, Source, TraceReader, address
 from fptools.program import Flexpret
 from fptools.section import walk
@@ -38,6 +40,7 @@ class Kind(Enum):
     """The limits that a run can break."""
 
     TABLE = "table"  # how often a loop goes back
+    CLAIM = "claim"  # how often FP_ROUND is passed between two passes of FP_LOOP
     BUDGET = "budget"
     BOUND = "bound"  # in a visit that kept all tables: a fault of the analyser
 
@@ -47,10 +50,10 @@ class Break:
     """A break of a table, a budget or a bound."""
 
     kind: Kind
-    what: str  # the loop's addresses, or the section's name
-    seen: int  # rounds or cycles
+    what: str  # the loop's addresses, the section's name, or the claim's place and name
+    seen: int  # rounds, passes or cycles
     most: int  # that were allowed
-    cycle: int  # in which it began
+    cycle: int  # in which it began; of a claim, in which it was broken first
     times: int
 
 
@@ -65,6 +68,7 @@ class Question:
     period: int = DEFAULT_PERIOD
     code: Mapping[int, int] = field(default_factory=dict)  # the words of the image, where it is known
     is_quiet: bool = True  # no thread may write slots, modes or regions
+    marks: Marks | None = None  # those of the loops
 
 
 @dataclass
@@ -77,6 +81,7 @@ class Observation:
     last_cycle: int | None = None
     executions: list[Executions] = field(default_factory=list)
     rounds: list[Rounds] = field(default_factory=list)
+    claims: list[Passes] = field(default_factory=list)
     waits: list[Wait] = field(default_factory=list)
     traps: list[Trapped] = field(default_factory=list)
     broken: str | None = (
@@ -86,7 +91,7 @@ class Observation:
 
     @property
     def breaks(self) -> list[Break]:
-        found = [*self._broken_tables(), *self._broken_budgets()]
+        found = [*self._broken_tables(), *self._broken_claims(), *self._broken_budgets()]
         return found if self.foreign else [*found, *self._broken_bounds()]
 
     def _broken_tables(self) -> Iterator[Break]:
@@ -96,6 +101,11 @@ class Observation:
                 cycle, most = max(rounds.breaks, key=lambda it: (it[1], -it[0]))
                 yield Break(Kind.TABLE, spelled_loop(table), most, table.bound, cycle, len(rounds.breaks))
 
+    def _broken_claims(self) -> Iterator[Break]:
+        for it in self.claims:
+            if it.broken_at is not None:
+                yield Break(Kind.CLAIM, str(it.claim), it.most, it.claim.most, it.broken_at, it.times)
+
     def _broken_budgets(self) -> Iterator[Break]:
         for seen in self.executions:
             slowest, budget = seen.slowest, seen.watched.budget
@@ -103,7 +113,10 @@ class Observation:
                 yield Break(Kind.BUDGET, seen.watched.name, slowest[0], budget, slowest[1], 1)
 
     def _broken_bounds(self) -> Iterator[Break]:
-        """The visits above their bound in which no loop went back more often than its table says."""
+        """The visits above their bound in which no loop went back more often than its table says, of a run that
+        broke no claim."""
+        if any(it.is_broken for it in self.claims):
+            return
         if any(len(rounds.breaks) == MOST_KEPT for rounds in self.rounds):
             return  # not all of the breaks are known
         starts = sorted(cycle for rounds in self.rounds for cycle, _ in rounds.breaks)
@@ -139,12 +152,18 @@ def loops_without_table(
     ]
 
 
-def question_of(setup: Setup, thread: int, watched: Sequence[Watched], code: Mapping[int, int]) -> Question:
-    """What to look at in a run of a setup: sections, and all loops that its tables or the sections' code
-    have."""
+def question_of(
+    setup: Setup,
+    thread: int,
+    watched: Sequence[Watched],
+    code: Mapping[int, int],
+    marks: Marks | None = None,
+) -> Question:
+    """What to look at in a run of a setup: sections, all loops that its tables or the sections' code have, and
+    claims of loop marks."""
     loops = [*setup.loops, *loops_without_table(watched, code, setup.loops)]
     is_quiet = not setup.has_permits
-    return Question(thread, watched, loops, turns_of(setup, thread), setup.period, code, is_quiet)
+    return Question(thread, watched, loops, turns_of(setup, thread), setup.period, code, is_quiet, marks)
 
 
 class TurnMeter:
@@ -180,8 +199,8 @@ def observe(reader: TraceReader, question: Question) -> Observation:
     calls = CallMeter(functions, question.turns, reader)
     loops = [LoopMeter(table) for table in question.loops]
     waits, traps = WaitMeter(WaitJudge(reader, question.turns, question.period)), TrapMeter()
-    turns = TurnMeter(question.turns, code)
-    meters: list[Meter] = [*sections, *loops, waits, traps, turns, *([calls] if functions else [])]
+    turns, claims = TurnMeter(question.turns, code), ClaimMeter(question.marks or Marks())
+    meters: list[Meter] = [*sections, *loops, waits, traps, turns, claims, *([calls] if functions else [])]
     seen = Observation(question)
     try:
         measure(reader, meters)
@@ -192,6 +211,7 @@ def observe(reader: TraceReader, question: Question) -> Observation:
     seen.events, seen.first_cycle, seen.last_cycle = reader.events, reader.first_cycle, reader.last_cycle
     seen.executions = [*(it.seen for it in sections), *calls.seen.values()]
     seen.rounds = [it.seen for it in loops]
+    seen.claims = claims.passes
     seen.waits = sorted(waits.seen.values(), key=lambda it: it.pc)
     seen.traps = sorted(traps.seen.values(), key=lambda it: it.first)
     seen.foreign = _foreign(reader, question, turns)
