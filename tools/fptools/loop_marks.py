@@ -39,8 +39,8 @@ VANISHES = re.compile(r"%(hi|pcrel_hi|got_pcrel_hi|tprel_hi|tprel_add|tls_\w+)\b
 address."""
 
 SILENT = re.compile(
-    r"\.(loc|file|cfi_\w+|size|type|globl|global|local|weak|hidden|ident|addrsig\w*|attribute|option"
-    r"|p2align|align|balign)$"
+    r"\.(loc|file|cfi_\w+|size|type|globl|global|local|weak|hidden|ident|addrsig\w*|attribute"
+    r"|option|p2align|align|balign)$"
 )
 """Directives without a place or a label of their own. Padding for alignment may be empty."""
 
@@ -53,7 +53,7 @@ CLOSES = re.compile(r"\.end(if|m|r)$")
 """Directives around statements that the assembler may leave out or repeat."""
 
 HIDES = re.compile(
-    r"\.(if\w*|else\w*|end(if|m|r)|macro|altmacro|purgem|rept|irpc?|include|equ|set|org)$"
+    r"\.(if\w*|else\w*|end(if|m|r)|macro|altmacro|purgem|rept|irpc?|include)$"
 )
 """With such a directive other statements may not be what they seem."""
 
@@ -172,10 +172,23 @@ class Reader:
             ):
                 group.append(it)
                 continue
-            if not all(map(_is_plain, group)):
+            if not all(map(self._is_plain, group)):
                 found |= {own.line for own in group}
             group = [it] if it is not None and it.by_hand else []
         return frozenset(found)
+
+    def _is_plain(self, it: Statement) -> bool:
+        """Whether a statement of an asm is a label, a plain instruction, or a jump to a label."""
+        if "'" in self.lines[it.line - 1]:  # a character, which may be one that ends the statement
+            return False
+        if it.kind is Kind.LABEL:
+            return True
+        if it.kind is Kind.DIRECTIVE and it.name != ".insn":
+            return bool(SILENT.match(it.name))
+        flow = _flow(it)
+        if flow in (Flow.BRANCH, Flow.JUMP):
+            return bool(PLAIN_TARGET.fullmatch(it.rest.rpartition(",")[2].strip()))
+        return flow in (Flow.ON, Flow.CALL)
 
     def _are_together(self, one: int, other: int) -> bool:
         """Whether two statements by hand may be of one asm: nothing of the compiler is between
@@ -213,9 +226,9 @@ class Reader:
             if it.name == ".size" or SECTION.match(it.name):
                 return Place.END
             return Place.NOTHING if SILENT.match(it.name) else Place.UNKNOWN
-        return (
-            Place.WORD if _flow(it) is not None and not VANISHES.search(it.rest) else Place.UNKNOWN
-        )
+        if _flow(it) is None:
+            return Place.UNKNOWN
+        return Place.NOTHING if VANISHES.search(it.rest) else Place.WORD
 
 
 def _bare(line: str) -> str:
@@ -236,21 +249,6 @@ def _flow(it: Statement) -> Flow | None:
         return instruction(it.line, it.name, it.rest).flow
     except Stays:
         return None
-
-
-def _is_plain(it: Statement) -> bool:
-    """Whether a statement of an asm is a label, a plain instruction, or a jump to a label."""
-    if it.kind is Kind.LABEL:
-        return True
-    if it.kind is Kind.DIRECTIVE and it.name != ".insn":
-        return bool(SILENT.match(it.name))
-    flow = _flow(it)
-    target = it.rest.rpartition(",")[2].strip()
-    return (
-        flow in (Flow.ON, Flow.CALL)
-        or flow in (Flow.BRANCH, Flow.JUMP)
-        and bool(PLAIN_TARGET.fullmatch(target))
-    )
 
 
 def _sights(tokens: list[Token]) -> dict[int, Sight]:

@@ -91,7 +91,7 @@ def run(command: Sequence[object], folder: Path | None = None, seconds: float = 
 @lru_cache
 def library() -> str:
     """gcc's library, for divisions of 64 bits and copies."""
-    return run([*GCC, "-print-libgcc-file-name"]).strip()
+    return run([GCC[0], "-march=rv32im", "-mabi=ilp32", "-print-libgcc-file-name"]).strip()
 
 
 @dataclass

@@ -332,8 +332,13 @@ EDGES = {
     "at the end of the function": (ADD + RET + L, [STAYS]),
     "before an instruction that a linker may delete": (
         ADD + R + "\tlui\ta5,%hi(v)\n.L2:\n" + ADD + BACK,
+        [FALL],
+    ),
+    "before such an instruction, to which a jump leads": (
+        ".L2:\n" + R + "\tlui\ta5,%hi(v)\n.L3:\n" + ADD + TO_L3 + BACK,
         [STAYS],
     ),
+    "before such an instruction, without a label": (L + "\tlui\ta5,%hi(v)\n" + ADD + RET, [ALL]),
     "behind an instruction that a linker may delete": (
         ".L3:\n\tlui\ta5,%hi(v)\n" + L + ".L2:\n" + ADD + BACK + "\tj\t.L3\n",
         [STAYS],
@@ -368,6 +373,7 @@ ODD = {
     "an unknown instruction": "own_macro a0",
     "code of another section": '.pushsection .text.own, "ax"\n\tnop\n\t.popsection',
     "no place": ".space 0",
+    "a label behind a character": "li a0, '#'; j 9f; nop; 9:",
     "a jump through a register": "jr a0",
 }
 
@@ -389,7 +395,6 @@ def test_a_nop_stays_beside_an_asm_that_hides_a_label(name: str) -> None:
         ".macro own\n\t.endm",
         ".if 1\n\tnop\n\t.endif",
         "nop /* two\n lines */",
-        ".set nop, 3",
         '.include "own"',
     ],
 )
@@ -420,6 +425,11 @@ def test_a_mark_that_cannot_be_read_is_refused(broken: str, tool: Tool, tmp_path
     ran = tool("fp_layout", tmp_path / "x.s", "-o", tmp_path / "out.s")
     assert (ran.returncode, (tmp_path / "out.s").exists()) == (2, False)
     assert "x.c:3: a loop mark that can't be read" in ran.stderr and ":10:" in ran.stderr
+
+
+def test_a_symbol_that_a_compiler_defines_hides_nothing() -> None:
+    symbols = "\t.bss\n\t.set\t.LANCHOR0,. + 0\n\t.set\tother,f\n"
+    assert "\tnop" not in with_records(function(ADD + L + ADD + RET) + symbols)
 
 
 def test_a_text_of_the_program_is_no_mark() -> None:

@@ -18,8 +18,8 @@ MARKS = TOOLS / "tests/data/marks"
 CASES = sorted(it for it in MARKS.glob("*.c"))
 CPP = sorted(MARKS.glob("*.cpp"))
 STEPS = 2_000_000
-NOT_FOR_CLANG = ("setjmp",)
-"""clang has no __builtin_setjmp for this core."""
+NOT_FOR_CLANG = ("setjmp", "relative_jump")
+"""clang has no __builtin_setjmp for this core, and doesn't assemble a jump by a number."""
 
 WAYS = [
     *(Way("gcc", level) for level in LEVELS),
@@ -79,7 +79,7 @@ def test_no_bound_of_c_is_below_a_run(tmp_path: Path, way: Way) -> None:
     needs(way)
     cases = [it for it in CASES if way.compiler == "gcc" or it.stem not in NOT_FOR_CLANG]
     found = never_below(together(tmp_path, cases, way))
-    assert found["exact"] > len(cases) / 2
+    assert found["exact"] + found["above"] > len(cases) / 2
 
 
 @pytest.mark.parametrize(
@@ -140,7 +140,9 @@ def of_one_name(folder: Path, way: Way, numbers: Sequence[int]) -> list[Seen]:
 def test_a_header_in_two_units_of_one_name(tmp_path: Path, level: str, mode: Mode) -> None:
     way = Way("gcc", level, mode)
     needs(way)
-    never_below(of_one_name(tmp_path, way, (1, 2)))
+    seen = of_one_name(tmp_path, way, (1, 2))
+    assert {it.kind for it in seen} <= {"exact", "above", "unknown", "never entered"}
+    assert level == "-O3" or any(it.kind in ("exact", "above") for it in seen)
 
 
 @pytest.mark.parametrize("mode", [Mode.DIRECT, Mode.LTO], ids=lambda it: str(it.value))
