@@ -140,6 +140,8 @@ def parts(jobs: int) -> list[Part]:
         pytest('model', 'model', 1),
         Part('bench/fuzz.py', ['{python}', 'bench/fuzz.py', '--count', '400', '--jobs', '1']),
         Part('bench/views_fuzz.py', ['{python}', 'bench/views_fuzz.py', '--seed', '1', '--count', '4']),
+        Part('bench/marks_fuzz.py', ['{python}', 'bench/marks_fuzz.py', '--count', '200'], modules=['elftools', 'networkx'],
+             commands=['cc', 'riscv64-unknown-elf-gcc', 'clang'], programs=False),
         Part('bench/refused_memory.py', ['{python}', 'bench/refused_memory.py', '--built'], commands=['cc']),
         Part('bench/edge.py', ['{python}', 'bench/edge.py']),
         Part('bench/edits.py', ['{python}', 'bench/edits.py', '--applies'], programs=False),
