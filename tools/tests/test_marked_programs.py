@@ -152,3 +152,39 @@ def test_units_that_nothing_tells_apart_have_no_claims(tmp_path: Path, mode: Mod
     seen = of_one_name(tmp_path, way, (1, 1))
     assert {it.kind for it in seen} == {"unknown"}
     assert any("FP_FLOW_DIRECT" in it.stated.stated.doubt for it in seen)
+
+
+INLINE = "inline" + EACH.removeprefix("\nstatic inline")
+IN_TWO_UNITS = (
+    '#define MOST 5\n#include "case.h"\n#include "each.h"\nu32 (*volatile p)(u32) = each;\n'
+    "u32 g(u32 n) { return each(n) + p(n); }\n",
+    '#define MOST 5\n#include "case.h"\n#include "each.h"\nu32 g(u32);\n'
+    "u32 (*volatile q)(u32) = each;\n"
+    'extern "C" void main0(void) { for (;;) count += q(FP_PORT) + g(FP_PORT) + each(FP_PORT); }\n',
+)
+"""Two units of C++ with one inline function, of which the linker keeps one copy."""
+
+
+@pytest.mark.parametrize("mode", [Mode.LAID, Mode.DIRECT], ids=lambda it: str(it.value))
+@pytest.mark.parametrize("compiler", ["g++", "clang++"])
+@pytest.mark.parametrize(
+    "linker", [LD, LLD, (*LD, "--gc-sections"), (*LLD, "--gc-sections")], ids=" ".join
+)
+def test_a_function_that_the_linker_keeps_once(
+    tmp_path: Path, linker: Sequence[str], compiler: str, mode: Mode
+) -> None:
+    way = Way(compiler, "-O2", mode, linker=tuple(linker))
+    needs(way)
+    (tmp_path / "each.h").write_text(INLINE)
+    sources = []
+    for number, text in enumerate(IN_TWO_UNITS):
+        sources.append(tmp_path / f"{number}.cpp")
+        sources[-1].write_text(text)
+    seen = seen_loops(
+        Program(tmp_path, sources, ["-I", MARKS, "-DNAME=x"]).built(way), runner(tmp_path)
+    )
+    assert all(it.kind != "below" for it in seen)
+    (each,) = [it for it in seen if it.stated.function.startswith("_Z4each")]
+    # GNU ld keeps the lines of the other copy: then it isn't certain whose claim it is.
+    is_known = linker[0] != LD[0] or each.stated.bound is not None
+    assert not is_known or each.stated.bound == 4
