@@ -349,6 +349,14 @@ EDGES = {
         ".L2:\n" + by_hand("addi a0,a0,1") + L + ".L3:\n" + ADD + TO_L3 + BACK,
         [FALL],
     ),
+    "behind a change of the section": (
+        ADD + "\t.section .text.cold\n" + L + ".L2:\n" + ADD + BACK,
+        [STAYS],
+    ),
+    "before a label in a debugger's table": (
+        ADD + L + ".L9:\n" + ADD + RET + "\t.section .debug_loc\n\t.4byte .L9\n\t.text\n",
+        [ALL],
+    ),
     "an address in a table": (
         ADD + L + ".L9:\n" + ADD + RET + "\t.section .rodata\n\t.word .L9\n\t.text\n",
         [FALL],
