@@ -12,6 +12,7 @@ number of commits. Status 1: a bound is below; a smaller program that also fails
 from __future__ import annotations
 
 import argparse
+import math
 import random
 import shutil
 import subprocess
@@ -43,7 +44,7 @@ BUILDS = 3
 """Of a program."""
 
 STEPS = 60_000_000
-HOST_SECONDS = 20
+HOST_SECONDS = 5
 MOST_BYTES = 9000
 """Of code: a larger program is left out."""
 
@@ -187,21 +188,26 @@ def main() -> int:
     )
     parser.add_argument('--only', type=int, metavar='N', help='only this program')
     parser.add_argument(
+        '--seconds', type=float, default=math.inf, metavar='N', help='begin none after so long'
+    )
+    parser.add_argument(
         '--keep', type=Path, default=Path('failed'), help='the folder for programs that fail'
     )
     asked = parser.parse_args()
     numbers = range(asked.first, asked.first + asked.count) if asked.only is None else [asked.only]
-    began, found = time.monotonic(), Counter[str]()
+    began, found, last = time.monotonic(), Counter[str](), -1
     with tempfile.TemporaryDirectory() as folder:
         loop_run = runner(Path(folder))
         for number in numbers:
-            own = Path(folder) / str(number)
+            if time.monotonic() - began > asked.seconds:
+                break
+            last, own = number, Path(folder) / str(number)
             own.mkdir()
             found += tried(Trial(f'{asked.seed} {number}', own), loop_run, asked.keep)
             shutil.rmtree(own)
     counts = ', '.join(f'{count} {kind}' for kind, count in sorted(found.items()))
     print(
-        f'seed {asked.seed}, programs {numbers[0]} to {numbers[-1]}, '
+        f'seed {asked.seed}, programs {numbers[0]} to {last}, '
         f'in {time.monotonic() - began:.0f} s: {counts}'
     )
     return 1 if found['below'] else 0
