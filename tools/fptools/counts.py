@@ -170,16 +170,19 @@ def _until_they_meet_again(_: int, one: Moving, other: Moving) -> int:
 
 
 def _until_one_passes(funct3: int, one: Moving, other: Moving) -> int:
-    """For how many rounds two numbers stay in their order at least, if one of them stays."""
-    if one[1] and other[1]:
-        return 1
-    (number, step), (end, _) = (one, other) if one[1] else (other, one)
+    """For how many rounds two numbers stay in their order at least: until they meet, or one wraps."""
     low = 0 if funct3 in (BLTU, BGEU) else -(2**31)
-    value, way = (number - low) % 2**32, (end - low) % 2**32 - (number - low) % 2**32
-    until_it_wraps = (2**32 - 1 - value) // step + 1 if step > 0 else value // -step + 1
-    if way * step < 0:
-        return until_it_wraps
-    return min(until_it_wraps, way // step)
+    a, b = (one[0] - low) % 2**32, (other[0] - low) % 2**32
+    until_they_wrap = min(_until_it_wraps(a, one[1]), _until_it_wraps(b, other[1]))
+    way, step = b - a, one[1] - other[1]
+    return until_they_wrap if way * step < 0 else min(until_they_wrap, way // step)
+
+
+def _until_it_wraps(number: int, step: int) -> int:
+    """In which round a number from 0 on leaves 32 bits."""
+    if step == 0:
+        return MOST_ROUNDS + 1
+    return (2**32 - 1 - number) // step + 1 if step > 0 else number // -step + 1
 
 
 def count_of_straight(

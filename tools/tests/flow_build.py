@@ -89,11 +89,11 @@ def built(
 def stated(elf: Path) -> dict[str, list[StatedLoop]]:
     """What is known of the loops of each function, with the functions that it calls."""
     program = Program(elf)
-    inference = Inference(program, {it.start for it in program.functions})
+    inference, entries = Inference(program), {it.start for it in program.functions}
     found: dict[str, list[StatedLoop]] = {}
     for it in program.functions:
         parts = walk_all(program.words, it.start, it.end, program.functions, is_function=True)
-        found[it.name] = [loop for part, loop in inference.state(parts) if part is parts[0]]
+        found[it.name] = [loop for part, loop in inference.state(parts, entries) if part is parts[0]]
     return found
 
 
