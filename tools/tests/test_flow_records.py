@@ -128,7 +128,7 @@ def test_the_loop_marks_of_called_functions() -> None:
     program = Own(record(8))
     program.words[32] = RET
     marks = Marks.of(program)
-    assert marks.entered_by(0) == {marks.all[0].claim}
+    assert marks.entered_by(0) == frozenset([marks.all[0].claim])
     assert marks.entered_by(12) == frozenset()
     program.words[32] = RET | 5 << 15  # a jump by another register
     assert Marks.of(program).entered_by(12) is None
