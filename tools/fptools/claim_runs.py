@@ -37,6 +37,7 @@ class Passes:
     most_at: int = 0  # the cycle of the pass with which there were so many
     broken_at: int | None = None  # the cycle of the first pass above the claim
     times: int = 0  # how often there were more than the claim says
+    is_passed: bool = False  # whether the run passed a mark of it
 
     def enter(self, cycle: int) -> None:
         self.now, self.since = 0, cycle
@@ -76,7 +77,7 @@ class ClaimMeter:
     @property
     def passes(self) -> list[Passes]:
         """Those of each claim that the run passed."""
-        return [self.seen[claim] for claim in sorted(self.seen)]
+        return [self.seen[claim] for claim in sorted(self.seen) if self.seen[claim].is_passed]
 
     def take(self, block: Block) -> None:
         if self._pattern is None:
@@ -118,13 +119,18 @@ class ClaimMeter:
     def _passes(self, start: int, to: int) -> list[tuple[Passes, bool]]:
         """The claims of the marks that an edge passes, and whether by FP_LOOP."""
         if (start, to) not in self._edges:
-            found = []
+            self._edges[start, to] = found = []
             for it in self.marks.passes(start, to):
-                claim = it.mark.claim
-                enters = it.mark.kind is Kind.LOOP
-                if claim not in self.marks.unused and (enters or it.is_sure):
-                    found.append((self.seen.setdefault(claim, Passes(claim)), enters))
-            self._edges[start, to] = found
+                claim, enters = it.mark.claim, it.mark.kind is Kind.LOOP
+                if claim in self.marks.unused or not (enters or it.is_sure):
+                    continue
+                own = (
+                    [other for other in self.marks.claims if claim.may_be(other)]
+                    if enters
+                    else [claim]
+                )
+                found += [(self.seen.setdefault(other, Passes(other)), enters) for other in own]
+                self.seen[claim].is_passed = True
         return self._edges[start, to]
 
     def _start(self, before: bytes | None, to: int) -> int | None:

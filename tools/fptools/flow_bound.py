@@ -13,6 +13,7 @@ can't be too small, if the claims are true:
 3. Passes in functions that the loop calls are left out on the left of 1, which only weakens it.
    Where such a function may pass the FP_LOOP, or calls code that isn't known, the claim isn't
    used.
+   The FP_LOOP of an inline function, or of a template, counts in each unit that compiles it.
 4. Where it isn't sure that an edge passes a mark, FP_LOOP counts and FP_ROUND doesn't: both
    weaken 1.
 5. Each number comes with factors of the claims, as fractions. For factors f from 0 on, no visit
@@ -58,7 +59,7 @@ class Fact:
         """What an edge adds to `rounds - n * loops`."""
         total = 0
         for it in edge.passes:
-            if it.mark.claim == self.claim and it.mark.kind is Kind.LOOP:
+            if it.mark.kind is Kind.LOOP and self.claim.may_be(it.mark.claim):
                 total -= self.claim.most
             elif it.mark.claim == self.claim and it.is_sure:
                 total += 1

@@ -60,6 +60,13 @@ class Claim:
     def __str__(self) -> str:
         return f"{self.file}:{self.line} {self.name}"
 
+    def may_be(self, other: Claim) -> bool:
+        """Whether both may be of one statement: an inline function has a claim in each unit that
+        compiles it, and a template in each of its functions."""
+        is_elsewhere = (self.unit, self.unit_name) != (other.unit, other.unit_name)
+        is_alike = (self.file, self.line, self.name) == (other.file, other.line, other.name)
+        return self == other or is_elsewhere and is_alike
+
 
 @dataclass(frozen=True)
 class Mark:
@@ -187,6 +194,10 @@ class Marks:
         """All marks, by address and order."""
         return [mark for at in sorted(self._at) for mark in self._at[at]]
 
+    @property
+    def claims(self) -> set[Claim]:
+        return {mark.claim for mark in self.all}
+
     def at(self, pc: int) -> Sequence[Mark]:
         """The marks in front of a word."""
         return self._at.get(pc, ())
@@ -220,8 +231,9 @@ class Marks:
         return (goes_on or comes_back) and before.target != to
 
     def entered_by(self, function: int) -> frozenset[Claim] | None:
-        """The claims whose FP_LOOP may be passed in a called function and in what it calls; None
-        for all, where it goes on at an address that isn't in its words."""
+        """The claims whose FP_LOOP may be passed in a called function and in what it calls, also by
+        its claim of another unit; None for all, where it goes on at an address that isn't in its
+        words."""
         if function not in self._entered:
             self._entered[function] = self._reached_from(function)
         return self._entered[function]
@@ -242,4 +254,4 @@ class Marks:
                 ahead.append(word.next)
             if word.target is not None:
                 ahead.append(word.target)
-        return frozenset(found)
+        return frozenset(it for it in self.claims if any(map(it.may_be, found)))

@@ -254,7 +254,8 @@ void inner(void)
 def test_two_files_of_one_name(case: Case, is_direct: bool) -> None:
     case.build([OUTER, INNER], "-O1", is_direct=is_direct)
     status, text = case.visits()
-    assert (status, text.count("x.c:9 k: claimed 4, seen 4\n")) == (0, 2)
+    assert (status, text.count("x.c:9 k: claimed 4, seen ")) == (0, 2)
+    assert "x.c:9 k: claimed 4, seen 4\n" in text
 
 
 HANDLER = """

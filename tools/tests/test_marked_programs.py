@@ -188,3 +188,43 @@ def test_a_function_that_the_linker_keeps_once(
     # GNU ld keeps the lines of the other copy: then it isn't certain whose claim it is.
     is_known = linker[0] != LD[0] or each.stated.bound is not None
     assert not is_known or each.stated.bound == 4
+
+
+DEEP = """
+void deeper(u32 n);
+inline void each(u32 n, u32 is_deep)
+{
+    FP_LOOP(i, 3);
+    for (u32 i = 0; i < n; i++) {
+        FP_ROUND(i);
+        count += a[i & 63];
+        if (is_deep)
+            deeper(2);
+    }
+}
+"""
+
+
+@pytest.mark.parametrize("mode", [Mode.LAID, Mode.DIRECT], ids=lambda it: str(it.value))
+@pytest.mark.parametrize("compiler", ["g++", "clang++"])
+def test_an_inline_function_that_another_unit_inlines_too(
+    tmp_path: Path, compiler: str, mode: Mode
+) -> None:
+    """Three rounds at most are between two passes of its FP_LOOP: the loop in main0 makes 40, as
+    another unit passes FP_LOOP in each."""
+    way = Way(compiler, "-O2", mode, linker=LLD)
+    needs(way)
+    (tmp_path / "deep.h").write_text(DEEP)
+    texts = (
+        'extern "C" void main0(void) { for (;;) each(FP_PORT % 41, 1); }\n',
+        "void deeper(u32 n) { each(n, 0); }\n",
+    )
+    sources = []
+    for number, text in enumerate(texts):
+        sources.append(tmp_path / f"{number}.cpp")
+        sources[-1].write_text(f'#include "case.h"\n#include "deep.h"\n{text}')
+    program = Program(tmp_path, sources, ["-I", MARKS, "-DNAME=x"])
+    seen = seen_loops(program.built(way), runner(tmp_path), steps=3_000_000)
+    assert all(it.kind != "below" for it in seen)
+    # lld keeps a call of two words, behind which nothing is known.
+    assert mode is Mode.DIRECT or any(it.backs >= 38 for it in seen)
