@@ -99,7 +99,7 @@ class StatedLoop:
         """What to do about the doubt."""
         if self.is_contradicted:
             return "correct the n of FP_LOOP"
-        return "docs/C.md#loops has FP_LOOP and FP_ROUND"
+        return "docs/C.md#loop-marks has FP_LOOP and FP_ROUND"
 
 
 @dataclass
