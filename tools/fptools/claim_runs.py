@@ -119,7 +119,7 @@ class ClaimMeter:
     def _passes(self, start: int, to: int) -> list[tuple[Passes, bool]]:
         """The claims of the marks that an edge passes, and whether by FP_LOOP."""
         if (start, to) not in self._edges:
-            self._edges[start, to] = found = []
+            found: list[tuple[Passes, bool]] = []
             for it in self.marks.passes(start, to):
                 claim, enters = it.mark.claim, it.mark.kind is Kind.LOOP
                 if claim in self.marks.unused or not (enters or it.is_sure):
@@ -131,6 +131,7 @@ class ClaimMeter:
                 )
                 found += [(self.seen.setdefault(other, Passes(other)), enters) for other in own]
                 self.seen[claim].is_passed = True
+            self._edges[start, to] = found
         return self._edges[start, to]
 
     def _start(self, before: bytes | None, to: int) -> int | None:
