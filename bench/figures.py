@@ -297,7 +297,7 @@ def section() -> Figure:
 
 
 FLOW = [
-    ("t0_filter.c", "gcc -O2 -S", "C with @rounds"),
+    ("t0_filter.c", "gcc -O2 -S", "C with FP_LOOP"),
     ("t0_filter.s", "fp_layout", "assembly"),
     ("own.elf", "flexpret elf", "assembled and linked"),
     ("own.fpx", "flexpret run", "the image"),
@@ -328,7 +328,7 @@ def flow() -> Figure:
     figure.text(
         14,
         236,
-        "fp_budget bounds the machine code of own.elf, with the loop bounds from @rounds. fp_visits compares a run with them.",
+        "fp_budget bounds the machine code of own.elf, with the claims of FP_LOOP. fp_visits compares a run with them.",
         "s",
     )
     figure.text(14, 20, "From C to a bound", "b")

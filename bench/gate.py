@@ -142,6 +142,8 @@ def parts(jobs: int) -> list[Part]:
         Part('bench/periods.py', ['{python}', 'bench/periods.py', '--count', '60', '--seed', '2'],
              modules=['elftools', 'jsonschema', 'networkx'], commands=['make', 'riscv64-unknown-elf-gcc']),
         Part('bench/views_fuzz.py', ['{python}', 'bench/views_fuzz.py', '--seed', '1', '--count', '4']),
+        Part('bench/marks_fuzz.py', ['{python}', 'bench/marks_fuzz.py', '--count', '200'], modules=['elftools', 'networkx'],
+             commands=['cc', 'riscv64-unknown-elf-gcc', 'clang'], programs=False),
         Part('bench/refused_memory.py', ['{python}', 'bench/refused_memory.py', '--built'], commands=['cc']),
         Part('bench/stacks.py', ['{python}', 'bench/stacks.py', '1', '60'], modules=['elftools', 'jsonschema', 'networkx', 'pytest'],
              commands=['riscv64-unknown-elf-gcc']),

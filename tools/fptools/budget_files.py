@@ -100,6 +100,7 @@ class Result:
     stack: Stack | None = None  # of the thread; None where the budget is unknown for another reason
     path: PathFacts | None = None  # that costs the bound; None where it isn't asked for, or there is no bound
     waits: tuple[int, ...] = ()  # of a period: the addresses of its loop's waits
+    is_broken: bool = False  # whether a run broke a claim of its loops
 
     @property
     def note(self) -> str | None:
@@ -114,7 +115,9 @@ class Result:
     def word(self) -> str:
         if self.verdict is Verdict.HOLDS:
             return "bound" if self.budget.cycles is None else "holds"
-        return "OVER" if self.verdict is Verdict.OVER else "UNKNOWN"
+        if self.verdict is Verdict.OVER:
+            return "BROKEN" if self.is_broken else "OVER"
+        return "UNKNOWN"
 
     def __str__(self) -> str:
         return f"{self.word:<8} {self.budget}: {self.text}"

@@ -5,6 +5,7 @@ from dataclasses import dataclass, replace
 from typing import Mapping, Sequence
 
 from fptools.budget_files import Result, Verdict
+from fptools.claim_runs import marks_for
 from fptools.elf import Program, ProgramError
 from fptools.observed import Kind, Observation, doubt_of, question_of, run_and_observe
 from fptools.observed_text import Text
@@ -60,7 +61,8 @@ class Runs:
         return found
 
     def _observed(self, thread: int, watched: Sequence[Watched], results: Sequence[Result]) -> Observation:
-        question = question_of(self.setup, thread, watched, self.image)
+        marks = marks_for(self.program, self.image)
+        question = question_of(self.setup, thread, watched, self.image, marks)
         if self.is_of_names:
             facts = {(it.head, it.last): it.bound for result in results for it in result.loops}
             question = replace(
@@ -93,6 +95,10 @@ class Runs:
         slowest, most, doubt = seen.slowest, result.budget.cycles, doubt_of(seen)
         why = Text(self.program).doubt(observation, doubt) if doubt else ""
         result = replace(result, executions=seen.count, longest=slowest[0] if slowest else None)
+        claims = self._broken_claims(observation, seen)
+        if claims:
+            text = f"{'; '.join(claims)}; {result.text}"
+            return replace(result, verdict=Verdict.OVER, text=text, is_broken=True)
         if slowest is not None and most is not None and slowest[0] > most:
             text = f"an execution{_kind_of(seen, slowest)} takes {slowest[0]} of {most} cycles"
             text += f", from cycle {slowest[1]} of a run; {f'{why}; ' if why else ''}{result.text}"
@@ -106,6 +112,21 @@ class Runs:
         return replace(
             result, text=f"{result.text}; the longest of {seen.count} executions takes {slowest[0]}"
         )
+
+    def _broken_claims(self, observation: Observation, seen: Executions) -> list[str]:
+        """The claims with marks in the section, or in a function, that a run broke."""
+        marks = observation.question.marks
+        parts = ((seen.watched.start, seen.watched.end), *seen.watched.routines)
+        own = {
+            mark.claim
+            for mark in (marks.all if marks else [])
+            if self.is_of_functions or any(start <= mark.at < end for start, end in parts)
+        }
+        return [
+            f"{it}: the run broke the claim in cycle {it.broken_at}"
+            for it in observation.claims
+            if it.is_broken and it.claim in own
+        ]
 
     def _broken(self, observation: Observation, seen: Executions) -> str | None:
         """Which table of the section's loops a run broke, or that it broke the bound."""

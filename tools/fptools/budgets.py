@@ -2,7 +2,7 @@
 from __future__ import annotations
 
 import tempfile
-from dataclasses import dataclass, field, replace
+from dataclasses import dataclass, field
 from functools import cached_property
 from pathlib import Path
 from typing import Mapping
@@ -10,8 +10,8 @@ from typing import Mapping
 from fptools.answers import Bound, NoAnswer, Refusal, read_answer
 from fptools.budget_files import Assumption, Budget, LoopFact, Result, Verdict
 from fptools.elf import Program, ProgramError, other_word
-from fptools.loops import StatedLoop, state_loops
-from fptools.moved import NotKnown, moved_word
+from fptools.inference import Inference, StatedLoop
+from fptools.moved import NoLines, NotKnown, moved_word
 from fptools.path_facts import PathFacts, facts_of
 from fptools.paths import Search
 from fptools.program import Answer, Flexpret
@@ -46,6 +46,7 @@ HELP = {
 LONG_CALL = (
     "a call by AUIPC and JALR, which the linker didn't shorten, as of clang: compile by -S, or with gcc"
 )
+KEEP = "FP_KEEP(value) before the mark at the end keeps it in"
 # The remedy for an exit of a section, and for one of a function.
 EXIT_HELP = {
     Exit.CALL: "calls = true goes through functions that are called by x1",
@@ -153,6 +154,8 @@ class Judge:
         functions = self.program.functions if budget.calls else []
         parts = walk_all(self.image, start, end, functions)
         exits = {self._address(it) for it in budget.exits}
+        lines = (self.program.line_of(pc) for part in parts for pc in part.reached)
+        self.sources.look_at({line for line in lines if line is not None})
         return Asked(budget, parts, exits, self.put_calls.get(start, start))
 
     def _bound(self, asked: Asked) -> int:
@@ -303,14 +306,12 @@ class Judge:
         entries = {it.entry for it in self.setup.threads}
         entries |= {it.start for it in self.program.functions} | set(thread.handlers(asked.begin))
         entries |= {at for it in self._code.placed if (at := self._code.jump_target(it)) is not None}
-        found = [
-            (part, stated)
-            for part in asked.parts
-            for stated in state_loops(part, self.program, self.sources, entries, self.image)
-        ]
-        if thread.jumps_anywhere:
-            found = [(part, replace(stated, counted=None)) for part, stated in found]
-        return found
+        inference, exits = self._inference, asked.exits
+        return inference.state(asked.parts, entries, exits, is_entered_anywhere=thread.jumps_anywhere)
+
+    @cached_property
+    def _inference(self) -> Inference:
+        return Inference(self.program, self.image)
 
     def table_of(self, part: Section, loop: Loop) -> int | None:
         """The bound of the setup's table of a loop."""
@@ -326,30 +327,25 @@ class Judge:
         self._look_at_stack(asked)
 
     def _look_at_loops(self, asked: Asked) -> None:
-        """Each loop's table is at least what the code counts, or the sources state where it doesn't."""
+        """Each loop's table is at least what the code counts, or the marks allow."""
         for part, stated in self.stated_loops(asked):
             bound = self.table_of(part, stated.loop)
             self.look_at_loop(asked, stated, bound or 0)
 
     def look_at_loop(self, asked: Asked, stated: StatedLoop, bound: int) -> None:
         where, loop = self.where(stated.loop.head), stated.loop
-        is_less = stated.counted is not None and stated.rounds is not None and stated.rounds < stated.counted
-        if is_less:
-            raise Unknown(f"{where}: {stated.doubt}: correct `@rounds`")
-        by = (
-            f"the code counts {stated.counted} rounds"
-            if stated.counted is not None
-            else f"the sources state {stated.rounds} rounds"
-        )
-        if stated.least is None:
+        if stated.is_contradicted:
+            raise Unknown(f"{where}: {stated.doubt}: {stated.advice}")
+        by = stated.source
+        if stated.bound is None:
             by = "the setup's table"
             self.assume_table(asked, stated)
-        elif bound < stated.least:
-            raise Unknown(f"{where}: {by}, which is bound = {stated.least}; the setup's table has {bound}")
+        elif bound < stated.bound:
+            raise Unknown(f"{where}: {by}, which is bound = {stated.bound}; the setup's table has {bound}")
         asked.loops.append(LoopFact(where, loop.head, loop.last, bound, by))
 
     def assume_table(self, asked: Asked, stated: StatedLoop) -> None:
-        """A loop that neither code nor sources bound: its table is taken for granted, or the budget is unknown."""
+        """A loop that neither code nor marks bound: its table is taken for granted, or the budget is unknown."""
         note = f"{self.where(stated.loop.head)}: only the setup's table bounds this loop ({stated.doubt})"
         if not asked.assumes(Assumption.LOOP_TABLES, note):
             raise Unknown(f"{note}: {stated.advice}, or assume = [{Assumption.LOOP_TABLES.value!r}]")
@@ -374,27 +370,25 @@ class Judge:
             raise Unknown(f"{note}: no bound counts a trap handler; {helps}")
 
     def _look_at_moved_work(self, asked: Asked, thread: ThreadCode) -> None:
-        """Work between the marks of a section is done in it."""
+        """Work between the marks of a section is done in it: else there is a warning. Without lines nothing tells, but
+        where nothing is outside of the section to which work may move."""
         begin, end = self._mark(asked.budget.start), self._mark(asked.budget.end)
         if begin is None or end is None or self.is_of_function:
             return
         section, entry = asked.section, thread.entry
         try:
             moved = moved_word(section, self._code, self.program, self.sources, entry, (begin, end))
-        except NotKnown as why:
+        except NoLines as why:
             note = f"nothing tells whether work was moved out of the section: {why}"
-            helps = f"or assume = [{Assumption.MOVED_WORK.value!r}]"
-        else:
-            if moved is None:
-                return
+            if not asked.assumes(Assumption.MOVED_WORK, note):
+                raise Unknown(f"{note}, or assume = [{Assumption.MOVED_WORK.value!r}]") from why
+            return
+        except NotKnown as why:
+            asked.notes.append(f"nothing tells whether work was moved out of the section: {why}")
+            return
+        if moved is not None and Assumption.MOVED_WORK not in asked.budget.assume:
             place = "it comes of a line between the marks, and is done outside of the section"
-            note = f"{self.where(moved)}: {place}"
-            helps = (
-                "FP_KEEP(value) before the mark at the end keeps it in; "
-                f"if it isn't meant: assume = [{Assumption.MOVED_WORK.value!r}]"
-            )
-        if not asked.assumes(Assumption.MOVED_WORK, note):
-            raise Unknown(f"{note}; {helps}")
+            asked.notes.append(f"{self.where(moved)}: {place}: {KEEP}")
 
     def _mark(self, value: int | str) -> str | None:
         """The name of a mark; of a number, that of a label there. None where no label is there."""

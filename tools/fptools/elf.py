@@ -1,12 +1,13 @@
 """An executable's words, symbols and source lines. Reading a file needs pyelftools."""
 from __future__ import annotations
 
+import io
 import re
 from bisect import bisect_right
-from dataclasses import dataclass, field
+from dataclasses import dataclass
 from functools import cached_property
 from pathlib import Path
-from typing import Any, Callable, Collection, Iterable, Iterator, Mapping
+from typing import Any, Collection, Iterable, Iterator, Mapping
 
 from fptools.image import words_of
 from fptools.recorded import SECTION, NoRecord, read_record
@@ -40,11 +41,10 @@ class Function:
 
 @dataclass(frozen=True)
 class Line:
-    """A line of a source, and the column in it, from 1 on; 0 where none is known."""
+    """A line of a source."""
 
     file: Path
     number: int
-    column: int = field(default=0, compare=False)
 
     def __str__(self) -> str:
         return f"{self.file.name}:{self.number}"
@@ -59,35 +59,8 @@ class Inlined:
     call: Line
 
 
-@dataclass(frozen=True)
-class Declared:
-    """A function of a source, and the line that names it."""
-
-    name: str
-    line: Line
-
-
 # From which address on a line counts, or none.
 Row = tuple[int, Line | None]
-
-# Options of gcc by which it makes other loops of nested ones, at any level.
-GRAPHITE = re.compile(r"-floop-nest-optimize|-floop-parallelize-all|-fgraphite.*")
-BY_PROFILE = re.compile(r"-fprofile-use.*|-fauto-profile.*")
-
-
-def interchanges(producer: str) -> bool:
-    """Whether a compiler may have made the outer one of two nested loops the inner one, by its name and its options: gcc
-    does so from -O3 on, and one whose options aren't known may."""
-    options = [it for it in producer.split() if it.startswith("-")]
-    if not producer.startswith("GNU ") or producer.startswith("GNU AS"):
-        return False
-    if not options or any(map(GRAPHITE.fullmatch, options)):
-        return True
-    level = next((it[2:] for it in reversed(options) if it.startswith("-O")), "")
-    chosen = next((it for it in reversed(options) if it in ("-floop-interchange", "-fno-loop-interchange")), "")
-    is_by_level = level == "fast" or level.isdecimal() and int(level) >= 3
-    return chosen == "-floop-interchange" or not chosen and (is_by_level or any(map(BY_PROFILE.fullmatch, options)))
-
 
 class Program:
     """A static ELF32 executable; without a file, one that has no words, symbols and lines."""
@@ -99,9 +72,10 @@ class Program:
         self.words: dict[int, int] = {}
         self.functions: list[Function] = []
         self.symbols: list[tuple[int, str]] = []
-        self.knows_functions = True  # whether it is known which functions were inlined, and which have no code
+        self.knows_functions = True  # whether it is known which functions were inlined
         self.record: dict[str, set[str]] | None = None  # the checksums of its sources by their names, where it has them
         self._files: list[str] = []  # the names of its sources, or of its objects
+        self.has_local_symbols = False  # whether names are kept that are local to a source
         if path is None:
             return
         from fptools.pyelf import FAULTS, ELFError, ELFFile
@@ -142,6 +116,8 @@ class Program:
             at, size, kind = symbol["st_value"], symbol["st_size"], symbol["st_info"]["type"]
             if kind == "STT_FILE":
                 self._files.append(symbol.name)
+            is_local = symbol["st_info"]["bind"] == "STB_LOCAL" and kind not in ("STT_SECTION", "STT_FILE")
+            self.has_local_symbols |= is_local and bool(symbol.name)
             is_label = kind == "STT_NOTYPE" and not symbol.name.startswith((".L", "$"))
             if symbol["st_shndx"] == "SHN_UNDEF" or not symbol.name or at >= CODE_END:
                 continue
@@ -149,6 +125,19 @@ class Program:
                 self.symbols.append((at, symbol.name))
             if kind == "STT_FUNC" and size:
                 self.functions.append(Function(at, at + size, symbol.name))
+
+    def section_data(self, name: str) -> bytes:
+        """The bytes of a section of the file; none where it has no such section."""
+        if self.path is None:
+            return b""
+        from fptools.pyelf import FAULTS, ELFError, ELFFile
+
+        try:
+            with self.path.open("rb") as file:
+                section = ELFFile(file).get_section_by_name(name)
+                return b"" if section is None else bytes(section.data())
+        except (ELFError, *FAULTS) as fault:
+            raise ProgramError(f"{self.path} is a broken ELF file: {fault}") from fault
 
     @property
     def has_functions(self) -> bool:
@@ -236,9 +225,7 @@ class Program:
         )
 
     @cached_property
-    def _units(self) -> list[tuple[list[Inlined], list[Declared], list[str], list[str]]]:
-        """The inlined calls, the functions without code of their own, the names of all, and those of variables and types
-        too, unit by unit."""
+    def _inlined(self) -> list[Inlined]:
         if self.path is None:
             return []
         from fptools.pyelf import FAULTS, DWARFError, ELFError, ELFFile
@@ -249,11 +236,7 @@ class Program:
                 return []
             try:
                 dwarf = elf.get_dwarf_info()
-                units = list(dwarf.iter_CUs())
-                return [
-                    ([*_inlined_of(dwarf, it)], [*_without_code_of(dwarf, it)], [*_functions_of(it)], [*_names_of(it)])
-                    for it in units
-                ]
+                return [it for unit in dwarf.iter_CUs() for it in _inlined_of(dwarf, unit)]
             except (ELFError, DWARFError, NoCall, *FAULTS):
                 self.knows_functions = False  # a form of DWARF that isn't known: each address has its own line
                 return []
@@ -261,46 +244,40 @@ class Program:
     @cached_property
     def folders(self) -> list[Path]:
         """The folders in which its units were compiled, as far as it names them."""
+        tops = (unit.get_top_DIE().attributes for unit in self._debug_units)
+        return sorted({Path(it["DW_AT_comp_dir"].value.decode()) for it in tops if "DW_AT_comp_dir" in it})
+
+    @cached_property
+    def function_names(self) -> frozenset[str]:
+        """The names of the functions of its sources, of those that were inlined too (-g)."""
+        dies = (die for unit in self._debug_units for die in unit.iter_DIEs())
+        named = (it.attributes for it in dies if it.tag == "DW_TAG_subprogram")
+        return frozenset(it["DW_AT_name"].value.decode() for it in named if "DW_AT_name" in it)
+
+    @cached_property
+    def _debug_units(self) -> list[Any]:
+        """Its units of debug information (-g); none where they have a form that isn't known."""
         if self.path is None:
             return []
         from fptools.pyelf import FAULTS, DWARFError, ELFError, ELFFile
 
         try:
-            with self.path.open("rb") as file:
-                elf = ELFFile(file)
-                dwarf = elf.get_dwarf_info() if elf.has_dwarf_info() else None
-                tops = [unit.get_top_DIE().attributes for unit in dwarf.iter_CUs()] if dwarf else []
+            elf = ELFFile(io.BytesIO(self.path.read_bytes()))
+            units = list(elf.get_dwarf_info().iter_CUs()) if elf.has_dwarf_info() else []
+            for unit in units:
+                list(unit.iter_DIEs())
         except (ELFError, DWARFError, *FAULTS):
             return []
-        return sorted({Path(it["DW_AT_comp_dir"].value.decode()) for it in tops if "DW_AT_comp_dir" in it})
-
-    @cached_property
-    def _inlined(self) -> list[Inlined]:
-        return [it for inlined, *_ in self._units for it in inlined]
-
-    @property
-    def without_code(self) -> list[Declared]:
-        """The functions of the sources that have neither code of their own nor are inlined. Calls of them go elsewhere:
-        the compiler has folded them with others of the same code."""
-        return [it for _, declared, *_ in self._units for it in declared]
-
-    @cached_property
-    def function_names(self) -> frozenset[str]:
-        """The names of its functions, of those that were inlined too."""
-        return frozenset(name for _, _, names, _ in self._units for name in names) | {name for _, name in self.symbols}
-
-    @cached_property
-    def all_names(self) -> frozenset[str]:
-        """The names of variables, types and functions of its sources, of which -g1 keeps the functions alone."""
-        return frozenset(name for *_, names in self._units for name in names)
-
-    def rows_at(self, address: int) -> list[Line]:
-        """The lines that a line table gives an address: that of a mark without code is among them."""
-        return [line for at, line in self._lines if at == address and line is not None and line.number]
+        return units
 
     def is_shared(self, address: int) -> bool:
         """Whether a word is of several functions, as a linker may fold those of the same code."""
         return sum(piece[0][0] <= address < piece[-1][0] for piece in self._pieces) > 1
+
+    @property
+    def has_lines(self) -> bool:
+        """Whether it has line tables (-g)."""
+        return bool(self._lines)
 
     @cached_property
     def _lines(self) -> list[Row]:
@@ -311,26 +288,6 @@ class Program:
     @cached_property
     def _pieces(self) -> list[list[Row]]:
         """The rows of the pieces that were compiled together."""
-        return list(linked([piece for _, pieces in self._rows_of_units for piece in pieces]))
-
-    @cached_property
-    def interchanged(self) -> frozenset[Path]:
-        """The sources of units whose nested loops the compiler may have interchanged."""
-        return self._sources_of(interchanges)
-
-    @cached_property
-    def keeps_calls(self) -> frozenset[Path]:
-        """The sources of units whose compiler was told to make no last call a jump."""
-        return self._sources_of(lambda producer: "-fno-optimize-sibling-calls" in producer.split())
-
-    def _sources_of(self, holds: Callable[[str], bool]) -> frozenset[Path]:
-        """The sources of the units whose compiler, with its options, is such a one."""
-        units = (pieces for producer, pieces in self._rows_of_units if holds(producer))
-        return frozenset(line.file for pieces in units for piece in pieces for _, line in piece if line is not None)
-
-    @cached_property
-    def _rows_of_units(self) -> list[tuple[str, list[list[Row]]]]:
-        """The name of each unit's compiler, with its options, and the rows of the unit's pieces."""
         if self.path is None:
             return []
         from fptools.pyelf import FAULTS, DWARFError, ELFError, ELFFile
@@ -340,7 +297,7 @@ class Program:
                 elf = ELFFile(file)
                 dwarf = elf.get_dwarf_info() if elf.has_dwarf_info() else None
                 units = dwarf.iter_CUs() if dwarf else ()
-                return [(_producer_of(unit), [*pieces_of(_rows_of(dwarf, unit))]) for unit in units]
+                return list(linked([it for unit in units for it in pieces_of(_rows_of(dwarf, unit))]))
         except (ELFError, DWARFError, *FAULTS) as fault:
             # Version 0.29 of pyelftools has no form for the checksums of files that clang writes.
             text = "has line tables that pyelftools can't read; -gdwarf-4 gives others"
@@ -374,12 +331,6 @@ def linked(pieces: Collection[list[Row]]) -> Iterator[list[Row]]:
             yield piece
 
 
-def _producer_of(unit: Any) -> str:
-    """The name of a unit's compiler, with the options that it was given; empty where it isn't told."""
-    producer = unit.get_top_DIE().attributes.get("DW_AT_producer")
-    return "" if producer is None else str(producer.value.decode())
-
-
 def _rows_of(dwarf: Any, unit: Any) -> Iterator[Row]:
     """The rows of a unit's line table."""
     table = dwarf.line_program_for_CU(unit)
@@ -391,37 +342,8 @@ def _rows_of(dwarf: Any, unit: Any) -> Iterator[Row]:
         state = entry.state
         if state is None:
             continue
-        line = Line(_file_of(table, state.file, base), state.line, state.column)
+        line = Line(_file_of(table, state.file, base), state.line)
         yield state.address, None if state.end_sequence else line
-
-
-def _without_code_of(dwarf: Any, unit: Any) -> Iterator[Declared]:
-    """The functions of a unit that are defined, but have no addresses, and of which no copy was made."""
-    table = dwarf.line_program_for_CU(unit)
-    top = unit.get_top_DIE()
-    folder = top.attributes.get("DW_AT_comp_dir")
-    base = Path(folder.value.decode()) if folder else Path()
-    has_code = {"DW_AT_low_pc", "DW_AT_ranges", "DW_AT_inline", "DW_AT_declaration", "DW_AT_abstract_origin"}
-    for entry in unit.iter_DIEs():
-        known = entry.attributes
-        is_named = {"DW_AT_name", "DW_AT_decl_file", "DW_AT_decl_line"} <= known.keys()
-        if entry.tag == "DW_TAG_subprogram" and is_named and not has_code & known.keys():
-            file = _file_of(table.header, known["DW_AT_decl_file"].value, base)
-            yield Declared(known["DW_AT_name"].value.decode(), Line(file, known["DW_AT_decl_line"].value))
-
-
-def _functions_of(unit: Any) -> Iterator[str]:
-    """The names of the functions that a unit has or calls."""
-    for entry in unit.iter_DIEs():
-        if entry.tag == "DW_TAG_subprogram" and "DW_AT_name" in entry.attributes:
-            yield entry.attributes["DW_AT_name"].value.decode()
-
-
-def _names_of(unit: Any) -> Iterator[str]:
-    """All names of a unit's sources."""
-    for entry in unit.iter_DIEs():
-        if "DW_AT_name" in entry.attributes:
-            yield entry.attributes["DW_AT_name"].value.decode()
 
 
 def _inlined_of(dwarf: Any, unit: Any) -> Iterator[Inlined]:

@@ -11,6 +11,7 @@ from fptools.copies import rotate, split_ends, split_entries
 from fptools.debug_cells import Unread
 from fptools.debug_ranges import Debugged, Moved, Origin
 from fptools.emission import Names, Writer, as_compiled, ends_of, mark_far
+from fptools.loop_marks import check_marks, with_records
 from fptools.regions import MOST_AROUND, Flows, Irreducible, Loop, Nest, NoOrder, Order, Section
 from fptools.same_flow import do_the_same
 
@@ -75,7 +76,8 @@ class Laid:
 
 
 def lay_out(assembly: Assembly, options: Options = Options()) -> Laid:
-    """Lays out all functions. Raises Fault."""
+    """Lays out all functions, and replaces loop marks by records. Raises Fault."""
+    check_marks(assembly.text)
     return _Layout(assembly, options).run()
 
 
@@ -144,7 +146,7 @@ class _Layout:
             if function.name in self.origins:
                 moved.append(self._moved(function, len(out)))
             out += lines
-        self.laid.text = self._debugged(out + self.assembly.lines[done:], moved)
+        self.laid.text = with_records(self._debugged(out + self.assembly.lines[done:], moved))
         return self.laid
 
     def _debugged(self, lines: list[str], moved: list[Moved]) -> str:

@@ -7,8 +7,8 @@ from enum import Enum
 from pathlib import Path
 from typing import Any, Callable, Iterator, Mapping
 
+from fptools.counts import count_of_straight, jumps_of
 from fptools.image import ImageError, read_image
-from fptools.rounds import counted_rounds, jumps_of
 from fptools.setup import DATA_START, LARGE, KeyPath, Setup, read_setup, spelled
 from fptools.toml import faults
 from fptools.words import Flow, Word
@@ -273,12 +273,12 @@ def _loop_tables(setup: Setup, words: Words) -> Iterator[Said]:
             continue
         if backs[-1] != last:
             yield note((*path, "last"), f"the last way back to {head:#x} is at {backs[-1]:#x}")
-        rounds = counted_rounds(words, jumps, head, backs[-1])
-        if rounds is not None and bound != rounds - 1:
-            side = "too few" if bound < rounds - 1 else "more than that"
-            text = f"the code counts {rounds} rounds, which is bound = {rounds - 1}; {bound} is {side}"
+        count = count_of_straight(words, jumps, head, backs[-1])
+        if count is not None and bound != count.backs:
+            side = "too few" if bound < count.backs else "more than that"
+            text = f"the code counts {count.backs + 1} rounds, which is bound = {count.backs}; {bound} is {side}"
             yield warning((*path, "bound"), text)
-        elif rounds is None and bound == 0:
+        elif count is None and bound == 0:
             text = "0 says that the loop never goes back"
             yield warning((*path, "bound"), text)
 

@@ -1,4 +1,7 @@
-"""Work that a compiler moved out of a section: code of lines between its marks that is issued outside of it."""
+"""Work that a compiler moved out of a section: code of lines between its marks that is issued outside of it.
+
+FP_MARK and FP_KEEP are volatile, and stay where they are; a computation in registers may move across a mark. What isn't
+in the section isn't in its bound either. So this is a warning about the marks, and no doubt about the number."""
 from __future__ import annotations
 
 import re
@@ -10,12 +13,13 @@ from fptools.sources import Sources
 from fptools.thread import Code, reach
 from fptools.words import OPCODE_AUIPC, OPCODE_IMMEDIATE, OPCODE_LUI, OPCODE_REGISTERS, Flow, Word
 
-# A mark in a line of its own.
-ALONE = re.compile(r"\s*FP_MARK\w*\s*\([^()]*\)\s*;?\s*")
-
 
 class NotKnown(Exception):
     """The reason why moved work can't be detected, and a remedy."""
+
+
+class NoLines(NotKnown):
+    """The code has no source lines."""
 
 
 @dataclass(frozen=True)
@@ -34,16 +38,17 @@ def moved_word(
 ) -> int | None:
     """The first word outside of a section that was compiled from a line between its marks, which are known by names.
     Outside is between its end and its next execution; of a section that isn't executed again, also the code before it,
-    from the thread's entry on. A word that gives a register a number is no work. None where there is no such word.
-    Raises NotKnown."""
-    marks = _marks(section, program, sources, names)
-    if marks is None:
-        return None
+    from the thread's entry on. A word that gives a register a number is no work. None where there is no such word, as where
+    all that is outside only leads to the next execution, or waits. Raises NotKnown."""
     starts = [section.end]
     if not reach(code, starts).has(section.start):
         starts.append(entry)
     outside = sorted(reach(code, starts, [section.start]).words.items())
     work = [word for pc, word in outside if not section.holds(pc) and not _is_number(code, word)]
+    is_whole = all(word.flow in (Flow.JUMP, Flow.CALL, Flow.WAIT, Flow.TRAP) for word in work)
+    marks = None if is_whole else _marks(section, program, sources, names)
+    if marks is None:
+        return None
     moved = [word.pc for word in work if any(map(marks.are_around, program.lines_of(word.pc)))]
     if not moved and not program.knows_functions:
         raise NotKnown("which functions were inlined isn't known by this form of DWARF: -gdwarf-4 gives another")
@@ -71,13 +76,12 @@ def _marks(section: Section, program: Program, sources: Sources, names: tuple[st
         return None
     around = [line for pc in (*section.reached, section.end) if (line := program.line_of(pc))]
     if not around:
-        raise NotKnown("the code has no line tables: compile with -g")
+        raise NoLines("the code has no line tables: compile with -g")
     if all(line.file.suffix in ASSEMBLER for line in around):
         return None
     begin, end = (_line_of_mark(program, sources, name) for name in names)
-    is_in_order = begin.file == end.file and begin.number < end.number
-    if not is_in_order or not sources.are_in_one_function(begin.file, begin.number, end.number):
-        raise NotKnown(f"the marks at {begin} and {end} aren't one after the other in one function")
+    if begin.file != end.file or begin.number >= end.number:
+        raise NotKnown(f"the marks at {begin} and {end} aren't one after the other in one file")
     return Marks(begin, end)
 
 
@@ -94,10 +98,7 @@ def _line_of_mark(program: Program, sources: Sources, name: str) -> Line:
         missing = sources.missing(program.all_lines)
         helps = f"{missing} isn't found: --src" if missing and not found else "one alone has to"
         raise NotKnown(f"{len(found) or 'no'} lines of the sources have FP_MARK({name}): {helps}")
-    (line,) = found
-    if not ALONE.fullmatch(sources.code_at(line)):
-        raise NotKnown(f"{line} has more than the mark {name}: write it in a line of its own")
-    return line
+    return found.pop()
 
 
 def _is_number(code: Code, word: Word) -> bool:

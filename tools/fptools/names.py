@@ -12,7 +12,7 @@ from fptools.budget_files import Assumption, Budget, LoopFact, Result, Verdict
 from fptools.budgets import Asked, Judge, Unknown
 from fptools.elf import Function, Program, ProgramError
 from fptools.image import write_image
-from fptools.loops import StatedLoop
+from fptools.inference import StatedLoop
 from fptools.program import Flexpret
 from fptools.section import Section
 from fptools.setup import Setup
@@ -72,8 +72,7 @@ class Names:
         return judge.judge(budget)
 
     def _tables(self, judge: Judge, budget: Budget) -> list[dict[str, int]]:
-        """A table for each loop: by the code where it counts, else by the sources, else that of the setup, if the budget
-        takes it for granted."""
+        """A table for each loop: by the code and the marks, else that of the setup, if the budget takes it for granted."""
         asked = judge.asked(budget)
         judge.look_at_code(asked)
         tables, missing = [], []
@@ -93,11 +92,13 @@ class Names:
         where = judge.where(stated.loop.head)
         if not stated.loop.is_interval:
             raise Unknown(f"{where}: {stated.doubt}: lay the code out by fp_layout")
-        if stated.least is not None:
-            return stated.least
+        if stated.bound is not None:
+            return stated.bound
+        if stated.is_contradicted:
+            raise Unknown(f"{where}: {stated.doubt}: {stated.advice}")
         table = judge.table_of(part, stated.loop)
         if table is None and Assumption.LOOP_TABLES in asked.budget.assume:
-            raise Unknown(f"{where}: neither the sources nor the setup bound this loop ({stated.doubt})")
+            raise Unknown(f"{where}: neither marks, nor code, nor the setup bound this loop ({stated.doubt})")
         if table is None:
             raise Unknown(f"{where}: nothing bounds this loop ({stated.doubt}): {stated.advice}")
         judge.assume_table(asked, stated)

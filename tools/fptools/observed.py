@@ -13,6 +13,8 @@ from itertools import chain
 from pathlib import Path
 from typing import IO, Collection, Iterator, Mapping, Sequence
 
+from fptools.claim_runs import ClaimMeter, Passes
+from fptools.flow_records import Marks
 from fptools.trace_blocks import Block, BrokenTrace, Progress, Source, TraceReader, address
 from fptools.program import Flexpret
 from fptools.section import walk
@@ -39,6 +41,7 @@ class Kind(Enum):
     """The limits that a run can break."""
 
     TABLE = "table"  # how often a loop goes back
+    CLAIM = "claim"  # how often FP_ROUND is passed between two passes of FP_LOOP
     BUDGET = "budget"
     BOUND = "bound"  # in a visit that kept all tables: a fault of the analyser
 
@@ -69,10 +72,10 @@ class Break:
     """A break of a table, a budget or a bound."""
 
     kind: Kind
-    what: str  # the loop's addresses, or the section's name
-    seen: int  # rounds or cycles
+    what: str  # the loop's addresses, the section's name, or the claim's place and name
+    seen: int  # rounds, passes or cycles
     most: int  # that were allowed
-    cycle: int  # in which it began
+    cycle: int  # in which it began; of a claim, in which it was broken first
     times: int
     doubt: Doubt | None = None  # of a section that is over its budget
 
@@ -89,6 +92,7 @@ class Question:
     code: Mapping[int, int] = field(default_factory=dict)  # the words of the image, where it is known
     is_quiet: bool = True  # no thread may write slots, modes or regions
     cycles: int | None = None  # of the run, where that is known
+    marks: Marks | None = None  # those of the loops
 
     @property
     def shown_to(self) -> int | None:
@@ -106,6 +110,7 @@ class Observation:
     last_cycle: int | None = None
     executions: list[Executions] = field(default_factory=list)
     rounds: list[Rounds] = field(default_factory=list)
+    claims: list[Passes] = field(default_factory=list)
     waits: list[Wait] = field(default_factory=list)
     traps: list[Trapped] = field(default_factory=list)
     broken: str | None = (
@@ -115,7 +120,7 @@ class Observation:
 
     @property
     def breaks(self) -> list[Break]:
-        found = [*self._broken_tables(), *self._broken_budgets()]
+        found = [*self._broken_tables(), *self._broken_claims(), *self._broken_budgets()]
         return found if self.foreign else [*found, *self._broken_bounds()]
 
     def _broken_tables(self) -> Iterator[Break]:
@@ -131,6 +136,11 @@ class Observation:
         found = (doubt_of(seen) for seen in self.executions if not _is_over(seen))
         return [it for it in found if it is not None]
 
+    def _broken_claims(self) -> Iterator[Break]:
+        for it in self.claims:
+            if it.broken_at is not None:
+                yield Break(Kind.CLAIM, str(it.claim), it.most, it.claim.most, it.broken_at, it.times)
+
     def _broken_budgets(self) -> Iterator[Break]:
         for seen in self.executions:
             slowest, budget = seen.slowest, seen.watched.budget
@@ -140,7 +150,10 @@ class Observation:
                 yield Break(Kind.BUDGET, seen.watched.name, slowest[0], budget, slowest[1], 1, own)
 
     def _broken_bounds(self) -> Iterator[Break]:
-        """The visits above their bound in which no loop went back more often than its table says."""
+        """The visits above their bound in which no loop went back more often than its table says, of a run that
+        broke no claim."""
+        if any(it.is_broken for it in self.claims):
+            return
         if any(len(rounds.breaks) == MOST_KEPT for rounds in self.rounds):
             return  # not all of the breaks are known
         starts = sorted(cycle for rounds in self.rounds for cycle, _ in rounds.breaks)
@@ -201,12 +214,18 @@ def loops_without_table(
     ]
 
 
-def question_of(setup: Setup, thread: int, watched: Sequence[Watched], code: Mapping[int, int]) -> Question:
-    """What to look at in a run of a setup: sections, and all loops that its tables or the sections' code
-    have."""
+def question_of(
+    setup: Setup,
+    thread: int,
+    watched: Sequence[Watched],
+    code: Mapping[int, int],
+    marks: Marks | None = None,
+) -> Question:
+    """What to look at in a run of a setup: sections, all loops that its tables or the sections' code have, and
+    claims of loop marks."""
     loops = [*setup.loops, *loops_without_table(watched, code, setup.loops)]
     is_quiet = not setup.has_permits
-    return Question(thread, watched, loops, turns_of(setup, thread), setup.period, code, is_quiet)
+    return Question(thread, watched, loops, turns_of(setup, thread), setup.period, code, is_quiet, marks)
 
 
 class TurnMeter:
@@ -247,7 +266,8 @@ def observe(reader: TraceReader, question: Question) -> Observation:
     loops = [LoopMeter(table) for table in question.loops]
     waits, traps = WaitMeter(WaitJudge(reader, question.turns, question.period)), TrapMeter()
     turns, open_trap = TurnMeter(question.turns, code), OpenTrapMeter(reader)
-    meters: list[Meter] = [*sections, *loops, waits, traps, turns, open_trap]
+    claims = ClaimMeter(question.marks or Marks())
+    meters: list[Meter] = [*sections, *loops, waits, traps, turns, open_trap, claims]
     meters += [calls] if functions else []
     seen = Observation(question)
     try:
@@ -261,6 +281,7 @@ def observe(reader: TraceReader, question: Question) -> Observation:
     for executions in seen.executions:
         look_at_open_trap(executions, open_trap, reader.last_cycle or 0)
     seen.rounds = [it.seen for it in loops]
+    seen.claims = claims.passes
     seen.waits = sorted(waits.seen.values(), key=lambda it: it.pc)
     seen.traps = sorted(traps.seen.values(), key=lambda it: it.first)
     seen.foreign = _foreign(reader, question, turns)

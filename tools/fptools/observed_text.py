@@ -5,6 +5,7 @@ import csv
 import io
 from typing import Any, Callable, Iterator, Sequence
 
+from fptools.claim_runs import Passes
 from fptools.elf import Program
 from fptools.observed import Break, Doubt, Kind, Observation, Why, spelled_loop
 from fptools.trace import CAUSES
@@ -61,6 +62,7 @@ class Text:
         groups: tuple[tuple[Callable[[Observation], Iterator[str]], int], ...] = (
             (self._executions, len(seen.executions)),
             (self._rounds, len(seen.rounds)),
+            (self._claims, len(seen.claims)),
             (self._waits, len(seen.waits)),
             (self._traps, len(seen.traps)),
         )
@@ -114,6 +116,11 @@ class Text:
             yield _cells(name, EXECUTION_WIDTHS, (*_spread_cells(it.backs), table))
             if it.elsewhere:
                 yield f"    {it.elsewhere} entries at another word than the head"
+
+    @staticmethod
+    def _claims(seen: Observation) -> Iterator[str]:
+        yield "claims of FP_LOOP"
+        yield from map(str, seen.claims)
 
     def _waits(self, seen: Observation) -> Iterator[str]:
         head = "number", "waited", "overruns", "latest, ns", "at cycle", "least slack, ns"
@@ -170,6 +177,9 @@ class Text:
             text = f"went back {it.seen} times from cycle {it.cycle} on, its table says {it.most}"
             text += f"; {it.times} entries broke it"
             return f"TABLE   {thread}loop {name}: {text}"
+        if it.kind is Kind.CLAIM:
+            text = f"claimed {it.most}, seen {it.seen}: it was broken in cycle {it.cycle}"
+            return f"CLAIM   {thread}{it.what}: {text}" + (f", and {it.times} times in all" if it.times > 1 else "")
         if it.kind is Kind.BUDGET:
             text = f"{it.seen} of {it.most} cycles, from cycle {it.cycle}"
             text += f"; {self.doubt(seen, it.doubt)}" if it.doubt else ""
@@ -213,6 +223,7 @@ def as_data(seen: Observation, text: Text) -> dict[str, Any]:
         "last_cycle": seen.last_cycle,
         "sections": [_section(it) for it in seen.executions],
         "loops": [_loop(it) for it in seen.rounds],
+        "claims": [_claim(it) for it in seen.claims],
         "waits": [_wait(it) for it in seen.waits],
         "traps": [
             {"pc": it.pc, "cause": it.cause, "number": it.count, "first_at": it.first} for it in seen.traps
@@ -273,6 +284,19 @@ def _loop(it: Rounds) -> dict[str, Any]:
         "backs": _spread(it.backs),
         "breaks": len(it.breaks),
         "entries_elsewhere": it.elsewhere,
+    }
+
+
+def _claim(it: Passes) -> dict[str, Any]:
+    claim = it.claim
+    return {
+        "file": claim.file,
+        "line": claim.line,
+        "name": claim.name,
+        "claimed": claim.most,
+        "seen": it.most,
+        "seen_at": it.most_at,
+        "broken_at": it.broken_at,
     }
 
 

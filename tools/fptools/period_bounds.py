@@ -228,9 +228,9 @@ class PathBounds:
 
     def rounds(self, part: Section) -> dict[int, int]:
         """The most rounds of the loops of a function, by their heads: as its code counts or its
-        sources state."""
+        marks allow."""
         _, found = self._stated(part)
-        return {head: it.least + 1 for head, it in found.items() if it.least is not None}
+        return {head: it.bound + 1 for head, it in found.items() if it.bound is not None}
 
     def _facts_of(self, part: Section) -> list[LoopFact]:
         """The loops of a called function."""

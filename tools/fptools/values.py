@@ -9,6 +9,7 @@ from fptools.words import (
     OPCODE_AUIPC,
     OPCODE_IMMEDIATE,
     OPCODE_LUI,
+    OPCODE_REGISTERS,
     OPCODES_WITHOUT_RESULT,
     RETURN,
     Flow,
@@ -16,6 +17,8 @@ from fptools.words import (
 )
 
 ADDI = 0
+BASE, SUBTRACTS = 0, 32
+"""The upper seven bits of an operation between registers: as its bits say, or subtracting, or shifting signs in."""
 
 
 @dataclass(frozen=True)
@@ -64,14 +67,53 @@ def after(word: Word, state: State) -> State:
     register = written_by(word)
     if not register:
         return state
-    value = Value((word.pc + 1, register), 0)  # no address of a word, so it is the result of this one
-    if adds(word):
-        base = state[word.rs1]
-        value = Value(base.origin, signed(base.offset + word.immediate))
-    elif word.opcode in (OPCODE_LUI, OPCODE_AUIPC):
-        base_of = word.pc if word.opcode == OPCODE_AUIPC else 0
-        value = Value(None, signed(base_of + (word.field(12, 20) << 12)))
+    value = _result(word, state)
+    if value is None:
+        value = Value((word.pc + 1, register), 0)  # no address of a word, so it is the result of this one
     return (*state[:register], value, *state[register + 1 :])
+
+
+def _result(word: Word, state: State) -> Value | None:
+    """What a word gives, as far as it is a number or a distance from another value."""
+    if word.opcode in (OPCODE_LUI, OPCODE_AUIPC):
+        base_of = word.pc if word.opcode == OPCODE_AUIPC else 0
+        return Value(None, signed(base_of + (word.field(12, 20) << 12)))
+    if word.opcode == OPCODE_IMMEDIATE:
+        kind = word.field(25, 7) if word.funct3 in (1, 5) else BASE
+        number = word.field(20, 5) if word.funct3 in (1, 5) else word.immediate
+        return _combined(word.funct3, kind, state[word.rs1], Value(None, number))
+    if word.opcode == OPCODE_REGISTERS:
+        return _combined(word.funct3, word.field(25, 7), state[word.rs1], state[word.rs2])
+    return None
+
+
+def _combined(funct3: int, kind: int, one: Value, other: Value) -> Value | None:
+    """The result of an operation: of numbers, or of a value and a number that is added or subtracted."""
+    if kind not in (BASE, SUBTRACTS):
+        return None
+    if one.origin is None and other.origin is None:
+        return Value(None, signed(_computed(funct3, kind, one.offset, other.offset)))
+    if funct3 == ADDI and other.origin is None:
+        return Value(one.origin, signed(one.offset + (-other.offset if kind == SUBTRACTS else other.offset)))
+    if funct3 == ADDI and kind == BASE and one.origin is None:
+        return Value(other.origin, signed(one.offset + other.offset))
+    return None
+
+
+def _computed(funct3: int, kind: int, one: int, other: int) -> int:
+    """The result of an operation of two numbers of 32 bits."""
+    shift, unsigned = other % 32, one % 2**32
+    results = (
+        one - other if kind == SUBTRACTS else one + other,
+        one << shift,
+        int(signed(one) < signed(other)),
+        int(unsigned < other % 2**32),
+        one ^ other,
+        signed(one) >> shift if kind == SUBTRACTS else unsigned >> shift,
+        one | other,
+        one & other,
+    )
+    return results[funct3]
 
 
 def joined(pc: int, one: State, other: State) -> State:
@@ -108,14 +150,21 @@ class Values:
         start: int,
         jumps: Mapping[int, set[int]],
         entries: Collection[int] = (),
+        first: State | None = None,
+        clobbered: dict[int, frozenset[int]] | None = None,
     ) -> None:
+        """With the values at its first word, where they are known: of a call that leads there. The registers that called
+        functions change are kept in `clobbered`, where one is given."""
         self.words = words
         self.jumps = jumps
-        self._clobbered: dict[int, frozenset[int]] = {}
+        self._clobbered = {} if clobbered is None else clobbered
         inside = self._inside(start)
         entered = {pc for pc in inside if pc == start or pc in entries or self._is_entered(pc, inside)}
         self.before: dict[int, State] = {pc: unknown(pc) for pc in entered}
         ahead = sorted(entered)
+        if first is not None:
+            self.before[start] = first
+            entered.discard(start)
         while ahead:
             pc = ahead.pop()
             for to, state in self._edges(pc):

@@ -22,7 +22,7 @@ from model.graphs import Graph, Part  # noqa: E402
 from model.setups import Loop, read_setup  # noqa: E402
 
 DATA = Path(__file__).resolve().parent / "data" / "layout"
-SHAPES = sorted(it.stem for it in DATA.glob("*.c") if it.stem != "quick_run")
+SHAPES = sorted({it.stem for it in DATA.glob("*.c")} - {"quick_run", "loop_run"})
 BATCHES = (SHAPES[::2], SHAPES[1::2])
 """Shapes that fit into an image together."""
 
@@ -60,6 +60,7 @@ class Way:
     rotate: int = 0
     is_clang: bool = False
     more: tuple[str, ...] = ()
+    is_marked: bool = False  # with loop marks
 
     def __str__(self) -> str:
         kind = "section" if self.is_section else "calls"
@@ -70,6 +71,7 @@ class Way:
     def compiler(self) -> list[str]:
         flags = [self.level, "-ffreestanding", "-fno-jump-tables", "-fno-optimize-sibling-calls", *self.more]
         flags += ["-I", str(DATA), "-I", str(TOP / "examples/c")] + ["-DSECTION"] * self.is_section
+        flags += ["-DUNMARKED"] * (not self.is_marked)
         return [*CLANG, *flags] if self.is_clang else [*GCC, *flags, RECIPE[2]]
 
     def assembler(self) -> tuple[str, ...]:

@@ -20,9 +20,7 @@ NO_LINES = (
     "assumes moved work: nothing tells whether work was moved out of the section: "
     "the code has no line tables: compile with -g"
 )
-STEP_NOTE = (
-    f"fp_budget: T0 step: assumes no traps: it is of executions without a trap ({COMES_BACK}); {NO_LINES}"
-)
+STEP_NOTE = f"fp_budget: T0 step: assumes no traps: it is of executions without a trap ({COMES_BACK})"
 PLAIN_STEP = 'name = "step"\nthread = 0\nfrom = "step_begin"\nto = "step_end"\n'
 STEP = f'{PLAIN_STEP}assume = ["no traps", "moved work"]\n'
 CALLS = "calls = true goes through functions that are called by x1"

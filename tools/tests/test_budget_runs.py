@@ -132,7 +132,7 @@ def test_a_function_and_a_section_from_names(tool: Tool, folder: Path) -> None:
     """The loops have the tables that the tool made; the setup has none."""
     case = Case(tool, folder, "callee")
     status, text = from_names(case, "--function", "sum_of")
-    first = "bound    T0 sum_of: 436 cycles (4360 ns); the longest of 6 executions takes 412"
+    first = "bound    T0 sum_of: 412 cycles (4120 ns); the longest of 6 executions takes 412"
     assert (status, text.splitlines()[0]) == (0, first)
     status, text = from_names(case, "--function", "sum_of", "--cycles", "400")
     assert (

@@ -91,13 +91,13 @@ def test_a_loop_that_tests_before_its_body_goes_back_n_times(case: Case) -> None
     assert (status, "bound = 15\n" in loops, "called: sum_of" in loops) == (0, True, True)
     case.set_up(loops)
     # The bound counts a part of a round more: one that is begun, and can't go back.
-    assert case.longest(2000) == 464
-    assert case.judged(476)[0] == 0
-    assert case.judged(475)[0] == 1
+    assert case.longest(2000) == 528
+    assert case.judged(544)[0] == 0
+    assert case.judged(543)[0] == 1
     case.set_up(loops.replace("bound = 15", "bound = 14"))
-    status, text = case.judged(460)
+    status, text = case.judged(528)
     assert status == 2
-    assert "the sources state 15 rounds, which is bound = 15; the setup's table has 14" in text
+    assert "head_test.c:7 i, 15, which is bound = 15; the setup's table has 14" in text
 
 
 @of("left_first")
@@ -106,22 +106,20 @@ def test_a_loop_that_is_left_at_the_begin_of_its_body_goes_back_n_times(case: Ca
     assert (status, "bound = 15\n" in loops) == (0, True)
     case.set_up(loops)
     # The bound counts a part of a round more: one that is begun, and can't go back.
-    assert case.longest(2000) == 684
-    assert (case.judged(704)[0], case.judged(703)[0]) == (0, 1)
+    assert case.longest(2000) == 752
+    assert (case.judged(772)[0], case.judged(771)[0]) == (0, 1)
     case.set_up(loops.replace("bound = 15", "bound = 14"))
-    assert case.judged(704)[0] == 2
+    assert case.judged(772)[0] == 2
 
 
 @of("folded")
-def test_functions_that_the_compiler_folds_into_one(case: Case) -> None:
+def test_functions_of_the_same_code_with_other_claims_stay_apart(case: Case) -> None:
+    """With -fipa-icf too: their marks are other ones."""
     status, loops = case.loops("work_begin", "work_end", "--calls")
-    assert (status, loops.count("bound = ?")) == (1, 1)
-    case.set_up(loops.replace("?", "4"))
-    assert case.longest(2000) > 200
-    status, text = case.judged(200)
-    assert status == 2
-    assert "sum_large (folded.c:14) has no code of its own: it may share this loop, and makes more rounds" in text
-    assert "-fno-ipa-icf" in text
+    assert (status, loops.count("[[loop]]"), "bound = 3\n" in loops, "bound = 14\n" in loops) == (0, 2, True, True)
+    case.set_up(loops)
+    longest = case.longest(2000)
+    assert case.judged(longest - 1)[0] == 1
 
 
 @of("unfolded")
@@ -129,22 +127,21 @@ def test_functions_that_are_kept_apart(case: Case) -> None:
     status, loops = case.loops("work_begin", "work_end", "--calls")
     assert (status, loops.count("[[loop]]")) == (0, 2)
     case.set_up(loops)
-    assert (case.judged(548)[0], case.judged(547)[0]) == (0, 1)
-    assert case.longest(2000) <= 548
+    assert (case.judged(580)[0], case.judged(579)[0]) == (0, 1)
+    assert case.longest(2000) <= 580
 
 
 @of("one_head")
 def test_two_loops_with_one_head(case: Case) -> None:
     status, loops = case.loops("work_begin", "work_end")
     assert status == 1
-    assert "bound = ?  # of its 2 back edges that at " in loops
-    assert "(one_head.c:10) states no rounds: two loops may have one head" in loops
+    assert "bound = ?  # no FP_ROUND is in the loop in one_head.c:11" in loops
     case.set_up(loops.replace("?", "7"), ODD_THEN_EVEN)
     assert case.longest(9000) > 500
     status, text = case.judged(500)
     assert status == 2
     assert "only the setup's table bounds this loop" in text
-    assert "two loops may have one head" in text
+    assert "no FP_ROUND is in the loop in one_head.c:11" in text
 
 
 def test_a_table_that_the_code_has_outgrown(asking: Tool, flexpret: str, tmp_path: Path) -> None:
@@ -159,7 +156,7 @@ def test_a_table_that_the_code_has_outgrown(asking: Tool, flexpret: str, tmp_pat
     assert new.longest(3000) > longest
     status, text = new.judged(longest)
     assert status == 2
-    assert "the code counts 32 rounds, the sources state 16: correct `@rounds`" in text
+    assert "the code counts 32 rounds, the marks state 16 (taps.c:10 i, 16): correct the n of FP_LOOP" in text
     assert new.loops("work_begin", "work_end")[0] == 1
 
 
@@ -167,10 +164,10 @@ def test_a_table_that_the_code_has_outgrown(asking: Tool, flexpret: str, tmp_pat
 def test_work_that_the_compiler_moves_behind_a_mark(case: Case) -> None:
     case.set_up()
     status, text = case.judged(40)
-    assert status == 2
+    assert status == 0
     assert "(moved.c:9): it comes of a line between the marks, and is done outside of the section" in text
     assert "FP_KEEP" in text
-    assert case.judged(40, 'assume = ["moved work"]\n')[0] == 0
+    assert "outside of the section" not in case.judged(40, 'assume = ["moved work"]\n')[1]
 
 
 @of("marked")
@@ -180,7 +177,7 @@ def test_work_that_the_compiler_moves_behind_a_mark(case: Case) -> None:
         ("inlined", "(marked.c:11): it comes of a line between the marks, and is done outside of the section"),
         ("once", "(marked.c:31): it comes of a line between the marks, and is done outside of the section"),
         ("macro", "no lines of the sources have FP_MARK(macro_begin): one alone has to"),
-        ("line", "marked.c:38 has more than the mark line_begin: write it in a line of its own"),
+        ("line", "fp_budget: T0 it: nothing tells whether work was moved out of the section: "),
     ],
 )
 def test_marks_that_are_hard_to_find(case: Case, mark: str, says: str) -> None:
@@ -188,8 +185,7 @@ def test_marks_that_are_hard_to_find(case: Case, mark: str, says: str) -> None:
     start, end = f"{mark}_begin", f"{mark}_end"
     assert case.longest(2000, start, end) <= 8
     status, text = case.judged(40, start=start, end=end)
-    assert (status, says in text) == (2, True)
-    assert case.judged(40, 'assume = ["moved work"]\n', start, end)[0] == 0
+    assert (status, says in text) == (0, True)
 
 
 @of("marked")
@@ -200,9 +196,9 @@ def test_marks_of_sources_that_are_elsewhere(case: Case) -> None:
         '[[budget]]\nname = "it"\nthread = 0\nfrom = "once_begin"\nto = "once_end"\ncycles = 40\n'
     )
     ran = case.asking("fp_budget", case.setup, budgets, "--elf", case.elf, "--src", case.folder)
-    assert ran.returncode == 2
-    assert "no lines of the sources have FP_MARK(once_begin)" in ran.stdout
-    assert "isn't found: --src" in ran.stdout
+    assert ran.returncode == 0
+    assert "no lines of the sources have FP_MARK(once_begin)" in ran.stderr
+    assert "isn't found: --src" in ran.stderr
 
 
 @of("moved")
@@ -212,7 +208,7 @@ def test_moved_work_of_a_section_by_numbers(case: Case) -> None:
     start, end = program.address("work_begin"), program.address("work_end")
     ask = ("fp_budget", case.elf, "--setup", case.setup, "--thread", 0, *SRC, "--cycles", 40)
     ran = case.asking(*ask, "--from-label", f"{start:#x}", "--to-label", f"{end:#x}")
-    assert (ran.returncode, "is done outside of the section" in ran.stdout) == (2, True)
+    assert (ran.returncode, "is done outside of the section" in ran.stderr) == (0, True)
 
 
 @of("kept")
@@ -248,9 +244,8 @@ def test_moved_work_without_line_tables(case: Case) -> None:
 def test_moved_work_of_no_line(case: Case) -> None:
     case.set_up()
     status, text = case.judged(40)
-    assert status == 2
+    assert status == 0
     assert "work_end+0x" in text and "is outside of it, and comes of no line" in text
-    assert case.judged(40, 'assume = ["moved work"]\n')[0] == 0
 
 
 @of("head_test")
@@ -260,7 +255,7 @@ def test_a_source_that_is_newer_than_the_executable(case: Case) -> None:
     source.write_bytes((HOLDS / "head_test.c").read_bytes())
     case.set_up(case.loops("work_begin", "work_end", "--calls")[1])
     ask = ("fp_budget", elf, "--setup", case.setup, "--thread", 0, "--src", case.folder)
-    section = ("--from-label", "work_begin", "--to-label", "work_end", "--cycles", 476)
+    section = ("--from-label", "work_begin", "--to-label", "work_end", "--cycles", 544)
     made = elf.stat().st_mtime_ns
     os.utime(source, ns=(made, made))
     assert case.asking(*ask, *section).returncode == 0
@@ -328,7 +323,7 @@ def test_loops_of_called_functions(case: Case) -> None:
     ran = case.asking("fp_loops", case.elf, "--from", "sum_of", *SRC)
     assert ran.returncode == 0
     assert ran.stdout.split("\n\n")[0] == loops.split("\n\n")[0]
-    assert ran.stdout.endswith("sum_of+0x2c: returns\n")
+    assert ran.stdout.endswith("sum_of+0x34: returns\n")
 
 
 @of("callee")
@@ -342,7 +337,7 @@ def test_a_switch_table_of_a_called_function(case: Case) -> None:
     assert status == 2
     assert "IndirectJump" in text
     assert "-fno-jump-tables" in text
-    assert "chosen+0x18 (callee.c:13)" in text
+    assert "chosen+0x18 (callee.c:14)" in text
 
 
 @of("crossing")
@@ -350,8 +345,9 @@ def test_an_outer_loop_that_goes_back_from_an_inner_one(case: Case) -> None:
     status, loops = case.loops("work_begin", "work_end")
     tables = [it.split("\n")[1:3] for it in loops.split("\n\n") if it.startswith("[[loop]]")]
     assert tables == [["head = 0x8", "last = 0x20"], ["head = 0x10", "last = 0x20"]]
-    case.set_up(loops)
-    assert case.judged(1000)[0] == 0
+    case.set_up(loops.replace("?", "4"))
+    assert case.judged(1000)[0] == 2
+    assert case.judged(1000, 'assume = ["loop tables"]\n')[0] == 0
 
 
 @of("elsewhere")
@@ -369,21 +365,21 @@ def test_a_function_that_returns_elsewhere(case: Case) -> None:
 @pytest.mark.parametrize(
     ("function", "bound"),
     [
-        ("continued", "15"),
-        ("endless", "15"),
+        ("continued", "14"),
+        ("endless", "16"),
         ("empty", "9"),
-        ("hidden", "?  # a loop around or inside has the same `@rounds`; the code counts 8"),
-        ("oneline", "?"),
-        ("unrolled", "?  # no `@rounds N` in the sources"),
+        ("hidden", "7"),
+        ("oneline", "?  # a round may pass FP_LOOP(k) again, at shapes.c:49"),
+        ("unrolled", "?  # a round may pass FP_LOOP(k) again, at shapes.c:56"),
         ("tested_last", "15"),
     ],
 )
-def test_comments_of_loops_of_many_shapes(tool: Tool, function: str, bound: str) -> None:
+def test_marks_of_loops_of_many_shapes(tool: Tool, function: str, bound: str) -> None:
     ran = tool("fp_loops", HOLDS / "shapes.elf", "--from", function, *SRC)
     assert next(it for it in ran.stdout.splitlines() if it.startswith("bound")).startswith(f"bound = {bound}")
-    assert ran.returncode == ("?" in bound)
+    assert ran.returncode == ("bound = ?" in ran.stdout)
 
 
-def test_a_comment_of_an_unrolled_loop_is_not_of_the_loop_around(tool: Tool) -> None:
+def test_the_mark_of_an_unrolled_loop_bounds_no_loop_around(tool: Tool) -> None:
     ran = tool("fp_loops", HOLDS / "shapes_o3.elf", "--from", "unrolled", *SRC)
     assert (ran.returncode, ran.stdout.count("[[loop]]"), ran.stdout.count("bound = ?")) == (1, 1, 1)

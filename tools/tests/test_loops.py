@@ -1,10 +1,14 @@
 """What fp_loops writes of sections; loops.elf has line tables, pid.elf has none."""
 from __future__ import annotations
 
+import os
+from pathlib import Path
+
 import pytest
-from conftest import TOP, Tool
+from conftest import TOOLS, TOP, Tool
 from fptools.image import read_image
-from fptools.loops import StatedLoop, is_whole
+from fptools.inference import StatedLoop
+from fptools.loops import is_whole
 from fptools.section import Loop, Section, walk
 from fptools.setup import read_setup
 
@@ -17,15 +21,15 @@ def test_a_section_with_all_its_bounds(tool: Tool) -> None:
     assert (
         ran.stdout
         == """\
-[[loop]]  # grid_begin+0x10 to grid_begin+0x44, loops.c:22
+[[loop]]  # grid_begin+0x10 to grid_begin+0x44, loops.c:22: the code counts 3 rounds
 head = 0x50
 last = 0x84
 bound = 2
 
-[[loop]]  # grid_begin+0x28 to grid_begin+0x3c, loops.c:25
+[[loop]]  # grid_begin+0x28 to grid_begin+0x3c, loops.c:25: loops.c:24 column, 5
 head = 0x68
 last = 0x7c
-bound = 5
+bound = 4
 
 # 0x84 grid_begin+0x44 to 0x88 grid_end: reaches the end
 """
@@ -33,22 +37,28 @@ bound = 5
     assert ran.returncode == 0
 
 
-def test_rounds_that_are_stated_and_counted(tool: Tool) -> None:
+def test_a_loop_that_the_code_counts(tool: Tool) -> None:
     ran = tool("fp_loops", LOOPS, "--from", "sum_of", "--to", "sum_of+0x24", *SRC)
-    assert "bound = 3\n" in ran.stdout
-    assert ran.returncode == 0
+    assert "loops.c:13: the code counts 4 rounds\n" in ran.stdout and "bound = 3\n" in ran.stdout
+    assert (ran.returncode, ran.stderr) == (0, "")
 
 
-def test_a_loop_without_stated_rounds(tool: Tool) -> None:
+def test_a_loop_that_nothing_bounds(tool: Tool) -> None:
     ran = tool("fp_loops", LOOPS, "--from", "call_end", "--to", "wait_end", *SRC)
-    assert "bound = ?  # no `@rounds N` in the sources\n" in ran.stdout
+    assert "bound = ?  # no FP_ROUND is in the loop in loops.c:31" in ran.stdout
     assert ran.returncode == 1
 
 
-def test_sources_that_are_not_found_state_nothing(tool: Tool) -> None:
-    ran = tool("fp_loops", LOOPS, "--from", "sum_of", "--to", "sum_of+0x24", "--src", "examples")
-    assert "bound = ?  # no `@rounds N` in the sources; the code counts 4\n" in ran.stdout
-    assert ran.returncode == 1
+def test_an_old_comment_is_told_once(tool: Tool, tmp_path: Path) -> None:
+    text = (TOOLS / "tests/data/loops.c").read_text().replace("index++)", "index++) /* @rounds 4 */")
+    (tmp_path / "loops.c").write_text(text.replace("row++) {", "row++) { /* @rounds 3 */"))
+    made = (TOOLS / "tests/data/loops.elf").stat().st_mtime_ns
+    os.utime(tmp_path / "loops.c", ns=(made, made))
+    ran = tool("fp_loops", LOOPS, "--from", "grid_begin", "--to", "grid_end", "--src", tmp_path)
+    assert (ran.returncode, ran.stderr) == (
+        0,
+        "fp_loops: loops.c:13: comments `@rounds` aren't read: write FP_LOOP and FP_ROUND, or call fp_rewrite_rounds\n",
+    )
 
 
 def test_a_call_leaves_a_section_and_comes_back_with_calls(tool: Tool) -> None:
@@ -63,7 +73,7 @@ def test_a_call_leaves_a_section_and_comes_back_with_calls(tool: Tool) -> None:
 
 def test_a_section_that_never_reaches_its_end_is_not_whole() -> None:
     loop = Loop(4, (4,))
-    stated = [StatedLoop(loop, frozenset({3}), None)]
+    stated = [StatedLoop(loop, by_marks=3)]
     assert not is_whole(Section(0, 8, loops=[loop]), stated)
 
 

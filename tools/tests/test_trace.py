@@ -79,7 +79,7 @@ def test_instructions_by_an_objdump(tool: Tool, objdump: str, tmp_path: Path) ->
 def test_source_lines(tool: Tool) -> None:
     event = "        12 00000020 fed598e3 -\n"
     given = ("--objdump", "", "--elf", LOOPS)
-    text = "for (word index = 0; index < 4; index++) /* @rounds 4 */"
+    text = "for (word index = 0; index < 4; index++)"
     assert shown(tool, *given, given=event) == [
         "12 120 +0 00000020 sum_of+0x20 0xfed598e3 <sum_of+0x10> - loops.c:13"
     ]

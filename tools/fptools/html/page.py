@@ -22,6 +22,7 @@ from fptools.html.histogram import Histogram, histogram_of
 from fptools.html.picture import Place, Region, Slot, Thread, regions_of, slots_of, threads_of
 from fptools.html.promises import CHECKS, PROVED, TESTED
 from fptools.html.timeline import KINDS, MOST_WINDOW, Timeline
+from fptools.claim_runs import Passes
 from fptools.labels import names_at
 from fptools.observed import Kind
 from fptools.observed_text import Text, ratio
@@ -31,7 +32,7 @@ from fptools.visits import Rounds
 
 TEMPLATES = Path(__file__).parent / "templates"
 MOST_SPOTS = 16  # lines of an execution that are listed
-SIGNS = {"holds": "✓", "bound": "•", "OVER": "✕", "UNKNOWN": "?"}
+SIGNS = {"holds": "✓", "bound": "•", "OVER": "✕", "BROKEN": "✕", "UNKNOWN": "?"}
 WORDS = {Verdict.HOLDS: "holds", Verdict.OVER: "over", Verdict.UNKNOWN: "unknown"}
 
 
@@ -245,6 +246,15 @@ class Page:
             )
             for seen in self.findings.observations
             for it in seen.traps
+        ]
+
+    @property
+    def claims(self) -> list[tuple[int, Passes]]:
+        """The claims of FP_LOOP that the runs passed, each with its thread."""
+        return [
+            (seen.question.thread or 0, it)
+            for seen in self.findings.observations
+            for it in seen.claims
         ]
 
     def _at(self, pc: int) -> str:

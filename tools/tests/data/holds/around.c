@@ -14,18 +14,20 @@ static volatile uint32_t count, tries;
 SHAPE redefined(uint32_t n)
 {
     EVER {
-        for (uint32_t i = 0; i < 4; i++) /* @rounds 4 */
-            if ((tries++ & 63) == n)
-                return;
+        FP_LOOP(i, 4);
+        for (uint32_t i = 0; i < 4; i++)
+            { FP_ROUND(i); if ((tries++ & 63) == n)
+                return; }
     }
 }
 SHAPE halves(uint32_t n)
 {
     LOOP_BEGIN
         count;
-        for (uint32_t i = 0; i < 4; i++) /* @rounds 4 */
-            if ((tries++ & 63) == n)
-                return;
+        FP_LOOP(i, 4);
+        for (uint32_t i = 0; i < 4; i++)
+            { FP_ROUND(i); if ((tries++ & 63) == n)
+                return; }
     LOOP_END
 }
 SHAPE conditional(uint32_t n)
@@ -40,24 +42,27 @@ SHAPE conditional(uint32_t n)
 #else
         }
 #endif
-        for (uint32_t i = 0; i < 4; i++) /* @rounds 4 */
-            if ((tries++ & 63) == n)
-                return;
+        FP_LOOP(i, 4);
+        for (uint32_t i = 0; i < 4; i++)
+            { FP_ROUND(i); if ((tries++ & 63) == n)
+                return; }
     }
 }
 SHAPE computed(uint32_t n)
 {
     void *back = &&again;
 again:
-    for (uint32_t i = 0; i < 4; i++) /* @rounds 4 */
-        if ((tries++ & 63) != n + i)
-            goto *back;
+    FP_LOOP(i2, 4);
+    for (uint32_t i = 0; i < 4; i++)
+        { FP_ROUND(i2); if ((tries++ & 63) != n + i)
+            goto *back; }
 }
 static void mutual(uint32_t n);
 static inline __attribute__((always_inline)) void other(uint32_t n) { mutual(n); }
 SHAPE mutual(uint32_t n)
 {
-    for (uint32_t i = 0; i < 2; i++) { /* @rounds 2 */
+    FP_LOOP(i3, 2);
+    for (uint32_t i = 0; i < 2; i++) { FP_ROUND(i3);
         count += i;
         if (n & 31) {
             other(n - 1);
@@ -68,28 +73,30 @@ SHAPE mutual(uint32_t n)
 SHAPE unknown_macro(uint32_t n)
 {
     FOREVER
-        for (uint32_t i = 0; i < 4; i++) /* @rounds 4 */
-            if ((tries++ & 63) == n)
-                return;
+        { FP_LOOP(i, 4); for (uint32_t i = 0; i < 4; i++)
+            { FP_ROUND(i); if ((tries++ & 63) == n)
+                return; } }
 }
 SHAPE unknown_begin(uint32_t n)
 {
     MY_BEGIN;
-        for (uint32_t i = 0; i < 4; i++) /* @rounds 4 */
-            if ((tries++ & 63) == n)
-                return;
+        FP_LOOP(i2, 4);
+        for (uint32_t i = 0; i < 4; i++)
+            { FP_ROUND(i2); if ((tries++ & 63) == n)
+                return; }
     MY_END;
 }
 SHAPE one_line(uint32_t n)
 {
     FOREVER
-        for (uint32_t i = 0; i < 4; i++) if ((tries++ & 63) == n) return; /* @rounds 4 */
+        { FP_LOOP(i3, 4); for (uint32_t i = 0; i < 4; i++) { FP_ROUND(i3); if ((tries++ & 63) == n) return; } }
 }
 SHAPE one_line_do(uint32_t n)
 {
     FOREVER {
         uint32_t i = 0;
-        do { if ((tries++ & 63) == n) return; } while (++i < 4); /* @rounds 4 */
+        FP_LOOP(loop, 4);
+        do { FP_ROUND(loop); if ((tries++ & 63) == n) return; } while (++i < 4);
     }
 }
 SHAPE marked(uint32_t n)
@@ -100,9 +107,10 @@ SHAPE marked(uint32_t n)
             FP_MARK(marked_begin);
             first = 0;
         }
-        for (uint32_t i = 0; i < 4; i++) /* @rounds 4 */
-            if ((tries++ & 63) == n)
-                goto out;
+        FP_LOOP(i, 4);
+        for (uint32_t i = 0; i < 4; i++)
+            { FP_ROUND(i); if ((tries++ & 63) == n)
+                goto out; }
     }
 out:
     FP_MARK(marked_end);

@@ -34,15 +34,15 @@ linked() {
     riscv64-unknown-elf-ld -m elf32lriscv -n -T "$c/flexpret.ld" -o "$1.elf" "${objects[@]}" "${@:3}"
     rm "${objects[@]}"
 }
-built head_test head_test.c -Os -fno-optimize-sibling-calls
-built one_head one_head.c -Os
-built taps16 taps.c -Os -DTAPS=16
-built taps32 taps.c -Os -DTAPS=32
+laid head_test head_test.c -Os -fno-optimize-sibling-calls
+laid one_head one_head.c -Os
+laid taps16 taps.c -Os -DTAPS=16
+laid taps32 taps.c -Os -DTAPS=32
 built moved moved.c -Os '-DKEEP(value)='
 built kept moved.c -Os '-DKEEP(value)=FP_KEEP(value)'
-built left_first left_first.c -Os
-built folded folded.c -O2 -fno-reorder-blocks
-built unfolded folded.c -O2 -fno-reorder-blocks -fno-ipa-icf
+laid left_first left_first.c -Os
+laid folded folded.c -O2 -fno-reorder-blocks
+laid unfolded folded.c -O2 -fno-reorder-blocks -fno-ipa-icf
 built moved_plain moved.c -Os -g0 '-DKEEP(value)='
 # Work of line 9 without a line, as clang has what it joins of two lines.
 clang --target=riscv32-unknown-elf -march=rv32im -mabi=ilp32 -O2 -gdwarf-4 -fdebug-compilation-dir=. -I "$c" '-DKEEP(value)=' \
@@ -51,33 +51,12 @@ clang --target=riscv32-unknown-elf -march=rv32im -mabi=ilp32 -fdebug-compilation
 rm t0_noline.s
 linked noline t0_noline.o
 built marked marked.c -Os
-laid hidden hidden.c -O3 -fno-ipa-icf -I include
-laid around around.c -O3 -fno-ipa-icf -Wno-unused-value -I include
-laid endless endless.c -O3 -fno-ipa-icf -Wno-unused-value -I include
-laid macros macros.c -O2 -fno-ipa-icf -fno-loop-interchange -I include
-laid respelled respelled.c -O3 -fno-ipa-icf
-laid interchanged interchanged.c -O3
-laid ordered interchanged.c -O3 -fno-loop-interchange
-laid levelled levelled.c -O2
-built heads heads.s
-laid computed computed.c -O2
-laid strict strict.c -O2 -gstrict-dwarf -gdwarf-2
-laid split strict.c -O2 -gsplit-dwarf -gdwarf-4
-rm -f ./*.dwo
-# Functions of the same code, which the linker folds.
-clang --target=riscv32-unknown-elf -march=rv32im -mabi=ilp32 -O2 -gdwarf-4 -fdebug-compilation-dir=. -I "$c" -ffreestanding \
-    -ffunction-sections -S -o linked.compiled.s linked.c
-../../../fp_layout linked.compiled.s -o linked.laid.s
-clang --target=riscv32-unknown-elf -march=rv32im -mabi=ilp32 -fdebug-compilation-dir=. -c -o t0_linked.o linked.laid.s
-compile -c -o start.o start.s
-ld.lld --icf=all -n -e 0 -T "$c/flexpret.ld" -o linked.elf t0_linked.o start.o
-rm t0_linked.o start.o linked.compiled.s linked.laid.s
 built expires expires.c -Os
 built emulates emulates.s
 built crossing crossing.s
-built callee callee.c -Os
-built shapes shapes.c -O2 -fno-reorder-blocks
-built shapes_o3 shapes.c -O3
+laid callee callee.c -Os
+laid shapes shapes.c -O2 -fno-reorder-blocks
+laid shapes_o3 shapes.c -O3
 built tail tail.c -O2
 built elsewhere elsewhere.s
 compile -Os -c -o t1_other.o other_thread.c

@@ -7,7 +7,8 @@ __attribute__((noinline)) static void retried(uint32_t n)
     void *back = &&again;
     tries = n;
 again:
-    for (uint32_t i = 0; i < 2 && seen[i] != n + 7; i++) { /* @rounds 2 */
+    FP_LOOP(i, 2);
+    for (uint32_t i = 0; i < 2 && seen[i] != n + 7; i++) { FP_ROUND(i);
         seen[i] = n;
         if (tries != 0 && tries-- != 0)
             goto *back;

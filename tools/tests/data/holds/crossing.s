@@ -4,12 +4,12 @@
 start0: li      x10, 4
         li      x12, 0x40000000
 work_begin:
-outer:  addi    x10, x10, -1            # @rounds 4
+outer:  addi    x10, x10, -1
         beq     x10, x0, work_end
 inner:  lw      x11, 0(x12)
         andi    x11, x11, 1
-        bne     x11, x0, outer          # @rounds 4
+        bne     x11, x0, outer
         add     x13, x13, x11
-        j       inner                   # @rounds 5
+        j       inner
 work_end:
         j       work_end

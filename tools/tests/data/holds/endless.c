@@ -15,7 +15,8 @@ SHAPE redefined(uint32_t n)
 {
     EVER {
         uint32_t i = 0;
-        while (1) { /* @rounds 5 */
+        FP_LOOP(loop, 6);
+        while (1) { FP_ROUND(loop);
             if (i++ == 4)
                 break;
             if ((tries++ & 63) == n)
@@ -27,7 +28,8 @@ SHAPE unknown_block(uint32_t n)
 {
     FOREVER {
         uint32_t i = 0;
-        for (;;) { /* @rounds 5 */
+        FP_LOOP(loop, 6);
+        for (;;) { FP_ROUND(loop);
             if (i++ == 4)
                 break;
             if ((tries++ & 63) == n)
@@ -39,18 +41,19 @@ SHAPE unknown_macro(uint32_t n)
 {
     uint32_t i = 0;
     FOREVER
-        for (i = 0;;) { /* @rounds 5 */
+        { FP_LOOP(i, 6); for (i = 0;;) { FP_ROUND(i);
             if (i++ == 4)
                 break;
             if ((tries++ & 63) == n)
                 return;
-        }
+        } }
 }
 SHAPE unknown_halves(uint32_t n)
 {
     MY_BEGIN;
     uint32_t i = 0;
-    for (;;) { /* @rounds 5 */
+    FP_LOOP(loop, 6);
+    for (;;) { FP_ROUND(loop);
         if (i++ == 4)
             break;
         if ((tries++ & 63) == n)
@@ -62,7 +65,8 @@ SHAPE halves_endless(uint32_t n)
 {
     LOOP_BEGIN
         uint32_t i = 0;
-        for (;;) { /* @rounds 5 */
+        FP_LOOP(loop, 6);
+        for (;;) { FP_ROUND(loop);
             if (i++ == 4)
                 break;
             if ((tries++ & 63) == n)
@@ -74,7 +78,7 @@ SHAPE halves_goto(uint32_t n)
 {
     LOOP_BEGIN
         uint32_t i = 0;
-    again: /* @rounds 4 */
+    FP_LOOP(loop, 5); again: FP_ROUND(loop);
         if ((tries++ & 63) == n)
             return;
         if (++i < 4)
@@ -94,7 +98,8 @@ SHAPE conditional(uint32_t n)
         }
 #endif
         uint32_t i = 0;
-        for (;;) { /* @rounds 5 */
+        FP_LOOP(loop, 6);
+        for (;;) { FP_ROUND(loop);
             if (i++ == 4)
                 break;
             if ((tries++ & 63) == n)
@@ -108,7 +113,8 @@ SHAPE computed(uint32_t n)
 again:
     count;
     uint32_t i = 0;
-    for (;;) { /* @rounds 5 */
+    FP_LOOP(loop2, 6);
+    for (;;) { FP_ROUND(loop2);
         if (i++ == 4)
             break;
         if ((tries++ & 63) == n)

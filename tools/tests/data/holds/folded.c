@@ -6,16 +6,18 @@ static volatile uint32_t words[32];
 APART sum_small(uint32_t n)
 {
     uint32_t s = 0;
-    for (uint32_t i = 0; i < n; i++) /* @rounds 4 */
-        s = s * 3 + words[i];
+    FP_LOOP(i, 4);
+    for (uint32_t i = 0; i < n; i++)
+        { FP_ROUND(i); s = s * 3 + words[i]; }
     return s;
 }
 
 APART sum_large(uint32_t n)
 {
     uint32_t s = 0;
-    for (uint32_t i = 0; i < n; i++) /* @rounds 15 */
-        s = s * 3 + words[i];
+    FP_LOOP(i, 15);
+    for (uint32_t i = 0; i < n; i++)
+        { FP_ROUND(i); s = s * 3 + words[i]; }
     return s;
 }
 

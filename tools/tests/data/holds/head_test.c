@@ -4,8 +4,9 @@ static volatile uint32_t table[15];
 __attribute__((noinline)) uint32_t sum_of(uint32_t n)
 {
     uint32_t sum = 0;
-    for (uint32_t i = 0; i < n; i++) /* @rounds 15 */
-        sum += table[i];
+    FP_LOOP(i, 15);
+    for (uint32_t i = 0; i < n; i++)
+        { FP_ROUND(i); sum += table[i]; }
     return sum;
 }
 void main0(void)

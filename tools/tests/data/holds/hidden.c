@@ -7,13 +7,14 @@ static uint32_t a[64];
 
 SHAPE above(uint32_t n)
 {
-    /* @rounds 4 */ for (uint32_t i = 0; i < (n & 3); i++) count += a[i];
+ FP_LOOP(i, 4); for (uint32_t i = 0; i < (n & 3); i++) { FP_ROUND(i); count += a[i]; }
     for (uint32_t k = 0; k < n; k++) count += a[k] * 3;
 }
 SHAPE left_inside(uint32_t n)
 {
     left = n + 1;
-    for (;;) { /* @rounds 15 */
+    FP_LOOP(loop, 16);
+    for (;;) { FP_ROUND(loop);
         if (--left == 0)
             break;
         n++;
@@ -21,7 +22,8 @@ SHAPE left_inside(uint32_t n)
 }
 SHAPE retried(uint32_t n)
 {
-    for (uint32_t i = 0; i < (n & 3); i++) { /* @rounds 3 */
+    FP_LOOP(i, 3);
+    for (uint32_t i = 0; i < (n & 3); i++) { FP_ROUND(i);
     retry:
         count += 5;
         if (tries++ & 31)
@@ -30,7 +32,8 @@ SHAPE retried(uint32_t n)
 }
 SHAPE retried_unrolled(uint32_t n)
 {
-    for (uint32_t i = 0; i < 2; i++) { /* @rounds 2 */
+    FP_LOOP(i, 2);
+    for (uint32_t i = 0; i < 2; i++) { FP_ROUND(i);
     retry:
         count += n;
         if (tries++ & 31)
@@ -40,34 +43,39 @@ SHAPE retried_unrolled(uint32_t n)
 SHAPE restarted(uint32_t n)
 {
 again:
-    for (uint32_t i = 0; i < 4; i++) /* @rounds 4 */
-        if ((tries++ & 63) != n + i)
-            goto again;
+    FP_LOOP(i, 4);
+    for (uint32_t i = 0; i < 4; i++)
+        { FP_ROUND(i); if ((tries++ & 63) != n + i)
+            goto again; }
 }
 SHAPE by_asm(uint32_t n)
 {
-    for (uint32_t i = 0; i < (n & 3); i++) { /* @rounds 3 */
+    FP_LOOP(i, 3);
+    for (uint32_t i = 0; i < (n & 3); i++) { FP_ROUND(i);
         __asm__ volatile("1: lw a5, 0(%0)\n\taddi a5, a5, 1\n\tsw a5, 0(%0)\n\tandi a5, a5, 31\n\tbnez a5, 1b"
                          :: "r"(&tries) : "a5", "memory");
     }
 }
 SHAPE by_macro(uint32_t n)
 {
-    for (uint32_t i = 0; i < (n & 3); i++) { /* @rounds 3 */
+    FP_LOOP(i, 3);
+    for (uint32_t i = 0; i < (n & 3); i++) { FP_ROUND(i);
         WAIT_UNTIL_EVEN();
     }
 }
 SHAPE unrolled(uint32_t n)
 {
     for (;;) {
-        for (uint32_t i = 0; i < 4; i++) /* @rounds 4 */
-            if ((tries++ & 63) == n)
-                return;
+        FP_LOOP(i, 4);
+        for (uint32_t i = 0; i < 4; i++)
+            { FP_ROUND(i); if ((tries++ & 63) == n)
+                return; }
     }
 }
 SHAPE recursive(uint32_t n)
 {
-    for (uint32_t i = 0; i < 2; i++) { /* @rounds 2 */
+    FP_LOOP(i, 2);
+    for (uint32_t i = 0; i < 2; i++) { FP_ROUND(i);
         count += i;
         if (n & 31) {
             recursive(n - 1);

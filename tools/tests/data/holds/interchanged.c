@@ -6,9 +6,11 @@ static uint32_t pixels[ROWS][COLUMNS];
 
 __attribute__((noinline)) static void brighten(uint32_t rows)
 {
-    for (uint32_t column = 0; column < COLUMNS; column++) { /* @rounds 18 */
-        for (uint32_t row = 0; row < rows; row++) /* @rounds 25 */
-            pixels[row][column] += 3;
+    FP_LOOP(column, 18);
+    for (uint32_t column = 0; column < COLUMNS; column++) { FP_ROUND(column);
+        FP_LOOP(row, 25);
+        for (uint32_t row = 0; row < rows; row++)
+            { FP_ROUND(row); pixels[row][column] += 3; }
     }
 }
 void main0(void)

@@ -5,7 +5,8 @@ static volatile uint32_t a[16], left;
 static inline uint32_t scan(void)
 {
     uint32_t s = 0;
-    for (;;) { /* @rounds 15 */
+    FP_LOOP(loop, 16);
+    for (;;) { FP_ROUND(loop);
         if (left-- == 0)
             break;
         s += a[s & 15] * 3;

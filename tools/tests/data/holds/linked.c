@@ -6,15 +6,17 @@ static uint32_t a[64];
 __attribute__((noinline)) static uint32_t sum_large(const uint32_t *from, uint32_t n)
 {
     uint32_t sum = 0;
-    for (uint32_t i = 0; i < n; i++) /* @rounds 40 */
-        sum += from[i] * 3;
+    FP_LOOP(i, 40);
+    for (uint32_t i = 0; i < n; i++)
+        { FP_ROUND(i); sum += from[i] * 3; }
     return sum;
 }
 __attribute__((noinline)) static uint32_t sum_small(const uint32_t *from, uint32_t n)
 {
     uint32_t sum = 0;
-    for (uint32_t i = 0; i < n; i++) /* @rounds 4 */
-        sum += from[i] * 3;
+    FP_LOOP(i, 4);
+    for (uint32_t i = 0; i < n; i++)
+        { FP_ROUND(i); sum += from[i] * 3; }
     return sum;
 }
 void main0(void)

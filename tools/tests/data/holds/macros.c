@@ -11,7 +11,8 @@ SHAPE by_macro(uint32_t n)
     uint32_t failed;
 again:
     failed = 0;
-    for (uint32_t i = 0; i < 1 && seen[i] != n + 7; i++) { /* @rounds 1 */
+    FP_LOOP(i, 1);
+    for (uint32_t i = 0; i < 1 && seen[i] != n + 7; i++) { FP_ROUND(i);
         seen[i] = n;
         if (tries != 0 && tries-- != 0)
             failed = 1;
@@ -23,7 +24,8 @@ SHAPE by_far_macro(uint32_t n)
     uint32_t failed;
 again:
     failed = 0;
-    for (uint32_t i = 0; i < 1 && seen[i] != n + 7; i++) { /* @rounds 1 */
+    FP_LOOP(i, 1);
+    for (uint32_t i = 0; i < 1 && seen[i] != n + 7; i++) { FP_ROUND(i);
         seen[i] = n;
         if (tries != 0 && tries-- != 0)
             failed = 1;
@@ -36,7 +38,8 @@ SHAPE by_far_label(uint32_t n)
     uint32_t failed;
     LABEL(first)
     failed = 0;
-    for (uint32_t i = 0; i < 1 && seen[i] != n + 7; i++) { /* @rounds 1 */
+    FP_LOOP(i, 1);
+    for (uint32_t i = 0; i < 1 && seen[i] != n + 7; i++) { FP_ROUND(i);
         seen[i] = n;
         if (tries != 0 && tries-- != 0)
             failed = 1;
@@ -49,7 +52,8 @@ SHAPE by_far_halves(uint32_t n)
     uint32_t failed;
     REPEAT
         failed = 0;
-        for (uint32_t i = 0; i < 1 && seen[i] != n + 7; i++) { /* @rounds 1 */
+        FP_LOOP(i, 1);
+        for (uint32_t i = 0; i < 1 && seen[i] != n + 7; i++) { FP_ROUND(i);
             seen[i] = n;
             if (tries != 0 && tries-- != 0)
                 failed = 1;
@@ -59,7 +63,8 @@ SHAPE by_far_halves(uint32_t n)
 SHAPE by_call(uint32_t n)
 {
     uint32_t failed = 0;
-    for (uint32_t i = 0; i < 1 && seen[i] != n + 7; i++) { /* @rounds 1 */
+    FP_LOOP(i, 1);
+    for (uint32_t i = 0; i < 1 && seen[i] != n + 7; i++) { FP_ROUND(i);
         seen[i] = n;
         if (tries != 0 && tries-- != 0)
             failed = 1;
@@ -71,10 +76,13 @@ SHAPE in_header(uint32_t n)
 {
     uint32_t failed;
 again:
+    FP_LOOP(i, 2);
     for (uint32_t i = 0;
-         i < 2 && (failed = tries-- > 1); /* @rounds 2 */
-         i++)
+         i < 2 && (failed = tries-- > 1);
+         i++) {
+        FP_ROUND(i);
         seen[i] = n;
+    }
     if (failed)
         goto again;
 }

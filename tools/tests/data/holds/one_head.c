@@ -6,7 +6,8 @@ void main0(void)
     uint64_t next = fp_get_time();
     for (;;) {
         FP_MARK(work_begin);
-        for (int i = 0; i < 8; i++) { /* @rounds 8 */
+        FP_LOOP(i, 8);
+        for (int i = 0; i < 8; i++) { FP_ROUND(i);
             while (FP_PORT & 1)
                 ;
             samples[i] += 3;

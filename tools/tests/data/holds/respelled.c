@@ -7,7 +7,8 @@ SHAPE digraph(uint32_t n)
 {
     for (;;) <%
         uint32_t i = 0;
-        for (;;) { /* @rounds 5 */
+        FP_LOOP(loop, 6);
+        for (;;) { FP_ROUND(loop);
             if (i++ == 4)
                 break;
             if ((tries++ & 63) == n)
@@ -19,7 +20,7 @@ SHAPE back(uint32_t n)
 {
     for (;;) <%
         uint32_t i = 0;
-    again: /* @rounds 4 */
+    FP_LOOP(loop, 5); again: FP_ROUND(loop);
         if ((tries++ & 63) == n)
             return;
         if (++i < 4)
@@ -29,9 +30,9 @@ SHAPE back(uint32_t n)
 SHAPE counted(uint32_t n)
 {
     for (;;) <%
-        for (uint32_t i = 0; i < 4; i++) /* @rounds 4 */
-            if ((tries++ & 63) == n)
-                return;
+        { FP_LOOP(i, 4); for (uint32_t i = 0; i < 4; i++)
+            { FP_ROUND(i); if ((tries++ & 63) == n)
+                return; } }
     %>
 }
 void main0(void)

@@ -4,7 +4,8 @@ static volatile uint32_t seen[4], tries;
 
 static inline uint32_t failed(uint32_t n)
 {
-    for (uint32_t i = 0; i < 2 && seen[i] != n + 7; i++) { /* @rounds 2 */
+    FP_LOOP(i, 2);
+    for (uint32_t i = 0; i < 2 && seen[i] != n + 7; i++) { FP_ROUND(i);
         seen[i] = n;
         if (tries != 0 && tries-- != 0)
             return 1;
@@ -14,8 +15,9 @@ static inline uint32_t failed(uint32_t n)
 __attribute__((noinline)) static void retried(uint32_t n)
 {
     tries = n;
-    while (failed(n)) /* @rounds 15 */
-        ;
+    FP_LOOP(loop, 15);
+    while (failed(n))
+        { FP_ROUND(loop); ; }
 }
 void main0(void)
 {

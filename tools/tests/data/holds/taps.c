@@ -1,4 +1,4 @@
-/* A counted loop of TAPS rounds, whose comment states 16. */
+/* A counted loop of TAPS rounds, of which the marks state 16. */
 #include "flexpret.h"
 static volatile uint32_t samples[40];
 void main0(void)
@@ -7,8 +7,9 @@ void main0(void)
     for (;;) {
         FP_MARK(work_begin);
         uint32_t sum = 0;
-        for (int i = 0; i < TAPS; i++) /* @rounds 16 */
-            sum += samples[i];
+        FP_LOOP(i, 16);
+        for (int i = 0; i < TAPS; i++)
+            { FP_ROUND(i); sum += samples[i]; }
         FP_PORT = sum;
         FP_MARK(work_end);
         next += 10000;

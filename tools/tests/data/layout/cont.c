@@ -1,7 +1,7 @@
 /* continue, at two places */
 #define NAME cont
 #include "shape.h"
-SHAPE(u32 x) { u32 s = 0; for (int i = 0; i < N; i++) { /* @rounds 16 */
+SHAPE(u32 x) { u32 s = 0; FP_LOOP(i, 16); for (int i = 0; i < N; i++) { FP_ROUND(i);
         if (a[i] == x) continue;
         s += b[i];
         if (s & 4) { s ^= a[i]; continue; }

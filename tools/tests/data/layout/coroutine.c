@@ -2,8 +2,8 @@
 #define NAME coroutine
 #include "shape.h"
 static u32 state, at;
-SHAPE(u32 x) { u32 s = 0; switch (state) { case 0:
-        for (at = 0; at < N; at++) { /* @rounds 17 */
+SHAPE(u32 x) { u32 s = 0; FP_LOOP(at, 17); switch (state) { case 0:
+        for (at = 0; at < N; at++) { FP_ROUND(at);
             s += a[at];
             if (s > x) { state = 1; return s; } /* fall through */
     case 1:

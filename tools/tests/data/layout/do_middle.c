@@ -1,7 +1,7 @@
 /* do while that is left in its middle, and begun again from there */
 #define NAME do_middle
 #include "shape.h"
-SHAPE(u32 x) { u32 i = 0, s = x; do { /* @rounds 16 */
+SHAPE(u32 x) { u32 i = 0, s = x; FP_LOOP(loop, 16); do { FP_ROUND(loop);
         s += a[i];
         if (s & 1) { b[i] = s; continue; }
         if (s > 70000) break;

@@ -2,9 +2,9 @@
 #define NAME goto_back
 #include "shape.h"
 SHAPE(u32 x) { u32 i = 0, j, s = 0;
-next: /* @rounds 4 */
+FP_LOOP(loop, 5); next: FP_ROUND(loop);
     j = 0;
-again: /* @rounds 4 */
+FP_LOOP(loop2, 5); again: FP_ROUND(loop2);
     s += a[4 * i + j] * (x & 7);
     if (++j < 4) goto again;
     b[i] = s;

@@ -1,5 +1,5 @@
 /* The frame of a shape, NAME: of its own with SECTION between two marks, else a function that is called between them. */
-#include "flexpret.h"
+#include "marks.h"
 #define PASTE_(a, b) a##b
 #define PASTE(a, b) PASTE_(a, b)
 #ifdef SECTION

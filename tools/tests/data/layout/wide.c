@@ -1,7 +1,7 @@
 /* 64 bits: sums, products, shifts, comparisons */
 #define NAME wide
 #include "shape.h"
-SHAPE(u32 x) { uint64_t s = x; int64_t d = -(int64_t)x; for (u32 i = 0; i < N; i++) { /* @rounds 16 */
+SHAPE(u32 x) { uint64_t s = x; int64_t d = -(int64_t)x; FP_LOOP(i, 16); for (u32 i = 0; i < N; i++) { FP_ROUND(i);
         s += (uint64_t)a[i] * b[i] << (i & 7);
         d -= (int64_t)(i32)a[i] * (i32)(b[i] - 7);
         if (s > 0x100000000ull + x) s -= d > 0 ? (uint64_t)d : 5;

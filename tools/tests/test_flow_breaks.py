@@ -1,0 +1,192 @@
+"""Programs that the bounds by marks and by counts could be fooled by: a run goes back more often
+than their claims and counts seem to say, by code that isn't seen as what it is. Each has no
+bound."""
+from __future__ import annotations
+
+from pathlib import Path
+
+import pytest
+from flow_build import GCC, HEAD, LD, bounds, built, stated
+from fptools.inference import StatedLoop
+
+CALLED = """NI_CALLEE
+static volatile u32 v = 3, total = 40;
+void main0(void)
+{
+    u32 s = 0, n = 0, t = total;
+    goto in;
+    {
+    other: s += CALL(s);
+        FP_LOOP(k, 2);
+        goto mid;
+    in: FP_ROUND(k);
+        n++;
+        if (!(n & 1)) goto other;
+        s += v;
+    mid: s ^= v;
+        if (n < t) goto in;
+    }
+    FP_PORT = s;
+}
+"""
+
+
+def main0_of(tmp_path: Path, text: str, *options: str, linker: list[str] = LD) -> list[StatedLoop]:
+    return stated(built(tmp_path, [HEAD + text], [*options], GCC, linker))["main0"]
+
+
+@pytest.mark.parametrize("level", ["-O1", "-O2"])
+def test_an_endless_loop_without_anything_that_ends_it(tmp_path: Path, level: str) -> None:
+    """No flow is possible, and 0 would be the largest of none."""
+    text = """void main0(void)
+{
+    for (;;) {
+        FP_LOOP(i, 4);
+        for (int i = 0; i < 4; i++) { FP_ROUND(i); __asm__ volatile("addi t0,t0,1" ::: "t0"); }
+    }
+}
+"""
+    found = main0_of(tmp_path, text, level)
+    outer = min(found, key=lambda it: it.loop.head)
+    assert outer.bound is None and "nothing leaves the loop in t0.c:" in outer.doubt
+
+
+def test_an_endless_loop_in_a_branch(tmp_path: Path) -> None:
+    text = """static volatile u32 v = 1;
+__attribute__((noinline)) u32 step(u32 x)
+{
+    if (x > 100) {
+        u32 crc = x;
+        for (;;) {
+            FP_LOOP(bit, 8);
+            for (int bit = 0; bit < 8; bit++) { FP_ROUND(bit); crc = crc & 1 ? crc >> 1 ^ 0xEDB88320u : crc >> 1; }
+            __asm__ volatile("" : "+r"(crc));
+        }
+    }
+    return x * 3;
+}
+void main0(void) { FP_PORT = step(v); FP_PORT = step(v + 100); }
+"""
+    assert bounds(built(tmp_path, [HEAD + text], ["-O2"]), "step") == [None, 7]
+
+
+@pytest.mark.parametrize("asm", ["j 9f; nop; 9:", "j 9f\\n\\tnop\\n9:\\n\\tval = 3"])
+def test_an_asm_that_jumps_to_its_end(tmp_path: Path, asm: str) -> None:
+    """FP_LOOP(i) is passed in each round of the outer loop, by a jump of the asm to the label
+    before the mark."""
+    text = f"""static volatile u32 n = 40, most = 2;
+void main0(void)
+{{
+    u32 x = 0, o = 0, c = n;
+    do {{
+        u32 i = 0, m = most;
+        __asm__ volatile("{asm}" : "+r"(i), "+r"(m), "+r"(x));
+        FP_LOOP(i, 2);
+        do {{ FP_ROUND(i); i++; x += i; }} while (i < m);
+        o++;
+    }} while (o != c);
+    FP_PORT = x;
+}}
+"""
+    outer = max(main0_of(tmp_path, text, "-O2"), key=lambda it: len(it.loop.body))
+    assert outer.bound is None
+
+
+FAR = ("__attribute__((noinline)) u32 half(u32 x) { FP_PORT = x; return x >> 1; }", "half")
+BY_POINTER = (
+    "__attribute__((noinline)) static u32 two(u32 x) { return x + 2; } static u32 (*volatile p)(u32) = two;", "p"
+)  # fmt: skip
+COLD = ("__attribute__((cold, noinline)) u32 two(u32 x) { return x + 2; }", "two")
+
+
+@pytest.mark.parametrize("level", ["-O1", "-Os"])
+def test_a_mark_behind_a_call_by_pointer(tmp_path: Path, level: str) -> None:
+    callee, call = BY_POINTER
+    (loop,) = main0_of(tmp_path, CALLED.replace("NI_CALLEE", callee).replace("CALL", call), level)
+    assert loop.bound is None
+    assert "it isn't known what comes behind" in loop.doubt and "an indirect jump" in loop.doubt
+
+
+def test_a_mark_behind_a_far_call(tmp_path: Path) -> None:
+    """A call by AUIPC and JALR, in the order of the compiler."""
+    callee, call = FAR
+    text = HEAD + CALLED.replace("NI_CALLEE", callee).replace("CALL", call)
+    elf = built(tmp_path, [text], ["-Os"], linker=[*LD, "--no-relax"], is_laid=False)
+    found = stated(elf)["main0"]
+    assert found and all(it.bound is None for it in found)
+
+
+def test_a_mark_in_a_cold_part(tmp_path: Path) -> None:
+    callee, call = COLD
+    options = ("-Os", "-freorder-blocks-and-partition")
+    text = CALLED.replace("NI_CALLEE", callee).replace("CALL", call)
+    assert all(it.bound is None for it in main0_of(tmp_path, text, *options))
+    cold = """	.section .text.unlikely
+	.type part, @function
+part:
+	nop
+.Lfp_flow1:
+	.pushsection .fp_flow,"?o",@progbits,.Lfp_flow1
+	.4byte .Lfp_flow1, 0, 0, 1, 2, 1, 1
+	.asciz "k", "own.c", ""
+	.popsection
+	j back
+	.size part, .-part
+	.text
+	.globl main0, back
+	.type main0, @function
+main0:
+	li a4, 40
+.Lin:
+.Lfp_flow2:
+	.pushsection .fp_flow,"?o",@progbits,.Lfp_flow2
+	.4byte .Lfp_flow2, 1, 0, 1, 2, 1, 2
+	.asciz "k", "own.c", ""
+	.popsection
+	addi a5, a5, 1
+	beqz a5, part
+back:
+	bne a5, a4, .Lin
+	ret
+	.size main0, .-main0
+"""
+    (loop,) = stated(built(tmp_path / "asm", [cold]))["main0"]
+    assert loop.bound is None and "it isn't known what comes behind" in loop.doubt
+
+
+@pytest.mark.parametrize("level", ["-O1", "-O2"])
+def test_a_counter_that_a_function_without_a_size_changes(tmp_path: Path, level: str) -> None:
+    text = """__asm__(".section .text.as,\\"ax\\"\\n\\t.globl asm_half\\nasm_half:\\n\\tsrli a0,a0,1\\n\\tret\\n\\t.text");
+u32 asm_half(u32);
+static volatile u32 v = 3;
+void main0(void)
+{
+    u32 s = 77, left = 30;
+    for (int i = 0; i < 10; i++) {
+        if (v & 1) { s += asm_half(s); if (left) { left--; i -= 1; } }
+        else s ^= 3;
+        v = i & 1 ? 3 : 2;
+    }
+    FP_PORT = s;
+}
+"""
+    found = main0_of(tmp_path, text, level)
+    assert found and all(it.bound is None for it in found)
+
+
+def test_functions_that_save_registers_by_calls(tmp_path: Path) -> None:
+    """A function that is entered by calls of a register of its own isn't gone through: its loops
+    aren't known."""
+    text = """static volatile u32 v = 3;
+__attribute__((noinline)) u32 g(u32 x) { return v ^ x; }
+__attribute__((noinline)) u32 f(u32 n, u32 m)
+{
+    u32 s = 0;
+    FP_LOOP(i, 9);
+    for (u32 i = 0; i < n; i++) { FP_ROUND(i); s += g(i * m) * g(s); }
+    return s;
+}
+void main0(void) { FP_PORT = f(9, 3); FP_PORT = f(0, 1); }
+"""
+    elf = built(tmp_path, [HEAD + text], ["-Os", "-msave-restore"])
+    assert all(it.bound is None for it in stated(elf)["f"])

@@ -1,0 +1,76 @@
+"""Counts by the numbers that calls pass, and claims that they contradict."""
+from __future__ import annotations
+
+from pathlib import Path
+
+import pytest
+from flow_build import HEAD, built, stated
+from fptools.elf import Program
+from fptools.inference import Inference, StatedLoop
+from fptools.section import walk_all
+
+COPY = """typedef unsigned char byte;
+static byte one[256], other[256];
+__attribute__((noinline, noipa)) void *copy(byte *to, const byte *from, u32 n)
+{
+    %s
+    for (u32 i = 0; i < n; i++) { %s to[i] = from[i]; __asm__ volatile(""); }
+    return to;
+}
+void main0(void) { copy(one, other, 16); %s }
+"""
+MARKS = ("FP_LOOP(byte, 128);", "FP_ROUND(byte);")
+
+
+def of_copy(folder: Path, text: str, level: str) -> StatedLoop:
+    """What is known of the loop of `copy`, as main0 calls it."""
+    program = Program(built(folder, [HEAD + text], [level]))
+    (main0,) = (it for it in program.functions if it.name == "main0")
+    parts = walk_all(program.words, main0.start, main0.end, program.functions, is_function=True)
+    found = Inference(program).state(parts, {it.start for it in program.functions})
+    (loop,) = (loop for part, loop in found if part is not parts[0])
+    return loop
+
+
+@pytest.mark.parametrize("level", ["-Og", "-O2", "-Os"])
+def test_a_call_that_passes_more_than_the_claim_says(tmp_path: Path, level: str) -> None:
+    text = COPY % (*MARKS, "copy(one + 16, other, 160);")
+    loop = of_copy(tmp_path, text, level)
+    assert loop.is_contradicted and loop.bound is None
+    assert "by the call at 0x" in loop.doubt and "main0" in loop.doubt
+    # Tested at its begin or at its end.
+    counted = "the code counts 161 rounds, the marks state 129", "the code counts 160 rounds, the marks state 128"
+    assert any(it in loop.doubt for it in counted)
+    assert loop.advice == "correct the n of FP_LOOP"
+
+
+@pytest.mark.parametrize("level", ["-Og", "-Os"])
+def test_calls_that_keep_the_claim(tmp_path: Path, level: str) -> None:
+    loop = of_copy(tmp_path, COPY % (*MARKS, "copy(one, other, 128);"), level)
+    assert not loop.is_contradicted and loop.bound in (127, 128)
+    loop = of_copy(tmp_path / "data", COPY % (*MARKS, "copy(one, other, FP_PORT & 63);"), level)
+    assert not loop.is_contradicted and loop.bound in (127, 128)
+
+
+@pytest.mark.parametrize("level", ["-Og", "-Os"])
+def test_numbers_of_all_calls_bound_a_loop_without_marks(tmp_path: Path, level: str) -> None:
+    loop = of_copy(tmp_path, COPY % ("", "", "copy(one, other, 160);"), level)
+    assert loop.by_marks is None and loop.bound in (159, 160)
+    loop = of_copy(tmp_path / "data", COPY % ("", "", "copy(one, other, FP_PORT);"), level)
+    assert loop.bound is None
+
+
+def test_a_claim_below_a_limit_that_another_exit_may_come_before(tmp_path: Path) -> None:
+    """A text of 20 characters at most in a field of 100: the count is no contradiction, but is said."""
+    text = """static volatile byte field[100];
+void main0(void)
+{
+    u32 i = 0;
+    FP_LOOP(at, 20);
+    for (; i < 100; i++) { FP_ROUND(at); if (!field[i]) break; }
+    FP_PORT = i;
+}
+""".replace("byte", "uint8_t")
+    (loop,) = stated(built(tmp_path, [HEAD + text], ["-Os"]))["main0"]
+    assert loop.bound in (19, 20) and not loop.is_contradicted
+    assert "the code counts 10" in loop.source and "the marks state 2" in loop.source
