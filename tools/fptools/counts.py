@@ -170,7 +170,8 @@ def _until_they_meet_again(_: int, one: Moving, other: Moving) -> int:
 
 
 def _until_one_passes(funct3: int, one: Moving, other: Moving) -> int:
-    """For how many rounds two numbers stay in their order at least: until they meet, or one wraps."""
+    """For how many rounds two numbers stay in their order at least: until they meet, or one
+    wraps."""
     low = 0 if funct3 in (BLTU, BGEU) else -(2**31)
     a, b = (one[0] - low) % 2**32, (other[0] - low) % 2**32
     until_they_wrap = min(_until_it_wraps(a, one[1]), _until_it_wraps(b, other[1]))

@@ -66,12 +66,14 @@ def why_unbounded(
     if unused and missing:
         return f"the claim {unused[0]} doesn't count: {marks.unused[unused[0]]}"
     if called and missing:
-        return f"the loop in {where} calls code that may pass the FP_LOOP of {min(called)}, or that isn't known"
+        why = f"calls code that may pass the FP_LOOP of {min(called)}, or that isn't known"
+        return f"the loop in {where} {why}"
     if not missing:
         return _again(program, flow, used)
     path = lines_text(program, [edge.start for edge in missing])
     if not flow.claims():
-        return f"no FP_ROUND is in the loop in {where}: write FP_LOOP(name, n) before it, and FP_ROUND(name) in it"
+        helps = "write FP_LOOP(name, n) before it, and FP_ROUND(name) in it"
+        return f"no FP_ROUND is in the loop in {where}: {helps}"
     names = " or ".join(f"FP_ROUND({it.name})" for it in used)
     return f"no {names} is on the way {path}: each round has to pass one"
 
@@ -91,8 +93,8 @@ def _again(program: Program, flow: LoopFlow, used: Collection[Claim]) -> str:
         )
     where = lines_text(program, _ends(edges))
     return (
-        f"a round may pass FP_LOOP({again[0].name}) again, at {where}: write FP_LOOP before the loop, "
-        "and in each loop a FP_ROUND of its own"
+        f"a round may pass FP_LOOP({again[0].name}) again, at {where}: "
+        "write FP_LOOP before the loop, and in each loop a FP_ROUND of its own"
     )
 
 

@@ -157,7 +157,7 @@ class Marks:
             where = f"a mark of {astray.claim} is at {astray.at:#x}, where no code is"
             found.fault = f"{SECTION} of {program.path} is damaged: {where}; {BUILD_AGAIN}"
         elif marks and not program.has_local_symbols and not program.has_lines:
-            why = "has neither local symbols nor lines, so functions that a linker folded aren't known"
+            why = "has neither local symbols nor lines, so folded functions aren't known"
             found.fault = f"{program.path} {why}: compile with -g, and don't strip it"
         else:
             found._take(program, marks, units)
@@ -173,7 +173,8 @@ class Marks:
                 why = "its FP_LOOP has no record in the executable"
             if not why and name and units.get(name, 0) != 1:
                 count = units.get(name, 0)
-                why = f"{count} units are named {name}: give them different numbers in -DFP_FLOW_DIRECT"
+                helps = "give them different numbers in -DFP_FLOW_DIRECT"
+                why = f"{count} units are named {name}: {helps}"
             if why:
                 self.unused.setdefault(mark.claim, why)
         for mark in sorted(marks, key=lambda it: it.order):
@@ -184,7 +185,8 @@ class Marks:
         """Why a mark may be of other code than that at its address; empty where it isn't."""
         function = program.function_at(mark.at)
         if function is None:
-            return f"a mark of it at {mark.at:#x} is in no function with a size: strip removes its symbol"
+            where = f"a mark of it at {mark.at:#x}"
+            return f"{where} is in no function with a size: strip removes its symbol"
         if functions[function.start] > 1 or program.is_shared(mark.at):
             return f"{function.name} shares its code with another function: link without --icf"
         return ""

@@ -70,7 +70,8 @@ class StatedLoop:
             return self.difference
         if self.by_marks is None and self.by_code is None or self.is_unseen:
             return self.why
-        return f"it goes back {self.by_marks} times by the marks, and a setup takes {MOST_ROUNDS} at most"
+        most = f"a setup takes {MOST_ROUNDS} at most"
+        return f"it goes back {self.by_marks} times by the marks, and {most}"
 
     @property
     def difference(self) -> str:
@@ -104,7 +105,8 @@ class StatedLoop:
 
 @dataclass
 class Inference:
-    """The loops of an executable. The words are those of the executable, or others that were made of it."""
+    """The loops of an executable. The words are those of the executable, or others that were made
+    of it."""
 
     program: Program
     words: Mapping[int, int] = field(default_factory=dict)
@@ -128,16 +130,21 @@ class Inference:
         exits: Collection[int] = (),
         is_entered_anywhere: bool = False,
     ) -> list[tuple[Section, StatedLoop]]:
-        """What is known of the loops of a section, and of the functions that it calls, which are the other parts. Code is
-        also entered at `entries`, as those of threads, or anywhere outside of a visit. The section may be left for the
-        addresses `exits`."""
+        """What is known of the loops of a section, and of the functions that it calls, which are
+        the other parts. Code is also entered at `entries`, as those of threads, or anywhere outside
+        of a visit. The section may be left for the addresses `exits`."""
         visit = _Visit(self, parts, frozenset(entries), is_entered_anywhere)
         return visit.stated(exits)
 
     def unreached(self, parts: Sequence[Section]) -> list[Mark]:
-        """The marks between the first and the last word of some parts, to which no path in them leads."""
+        """The marks between the first and the last word of some parts, to which no path in them
+        leads."""
         reached = {pc for part in parts for pc in part.reached}
-        return [it for it in self.marks.all if it.at not in reached and any(part.holds(it.at) for part in parts)]
+        return [
+            it
+            for it in self.marks.all
+            if it.at not in reached and any(part.holds(it.at) for part in parts)
+        ]
 
     def where(self, pc: int) -> str:
         """An address with its symbol and source line."""
@@ -165,11 +172,15 @@ class _Visit:
     _values: dict[tuple[int, State | None], Values] = field(default_factory=dict)
 
     def stated(self, exits: Collection[int]) -> list[tuple[Section, StatedLoop]]:
-        unseen = {it.start: self._unseen(it, exits if it is self.parts[0] else ()) for it in self.parts}
+        unseen = {
+            it.start: self._unseen(it, exits if it is self.parts[0] else ()) for it in self.parts
+        }
         found = []
         for part in self.parts:
             calls = [] if any(unseen.values()) else list(self._calls_of(part))
-            found += [(part, self._stated(part, loop, unseen[part.start], calls)) for loop in part.loops]
+            found += [
+                (part, self._stated(part, loop, unseen[part.start], calls)) for loop in part.loops
+            ]
         return found
 
     def _unseen(self, part: Section, exits: Collection[int]) -> str:
@@ -189,7 +200,8 @@ class _Visit:
         return f"{self.own.where(way.word.pc)}{to}: {way.exit.value}"
 
     def _values_of(self, part: Section, first: State | None = None) -> Values:
-        """The values in a part: from its function's first word on, or if that may be jumped over from its own one on."""
+        """The values in a part: from its function's first word on, or if that may be jumped over
+        from its own one on."""
         function = self.own.program.function_at(part.start)
         start = part.start if function is None or self.is_entered_anywhere else function.start
         if (start, first) not in self._values:

@@ -93,7 +93,9 @@ def stated(elf: Path) -> dict[str, list[StatedLoop]]:
     found: dict[str, list[StatedLoop]] = {}
     for it in program.functions:
         parts = walk_all(program.words, it.start, it.end, program.functions, is_function=True)
-        found[it.name] = [loop for part, loop in inference.state(parts, entries) if part is parts[0]]
+        found[it.name] = [
+            loop for part, loop in inference.state(parts, entries) if part is parts[0]
+        ]
     return found
 
 

@@ -141,7 +141,7 @@ def test_a_function_and_a_section_from_names(tool: Tool, folder: Path) -> None:
     ) == (1, True)
     status, text = from_names(case, "--from-label", "work_begin", "--to-label", "work_end", "--json")
     (result,) = json.loads(text)["results"]
-    assert (status, result["bound"], result["longest"], result["executions"]) == (0, 440, 416, 6)
+    assert (status, result["bound"], result["longest"], result["executions"]) == (0, 416, 416, 6)
 
 
 def test_a_run_needs_the_image(tool: Tool, folder: Path) -> None:

@@ -39,7 +39,10 @@ def test_a_call_that_passes_more_than_the_claim_says(tmp_path: Path, level: str)
     assert loop.is_contradicted and loop.bound is None
     assert "by the call at 0x" in loop.doubt and "main0" in loop.doubt
     # Tested at its begin or at its end.
-    counted = "the code counts 161 rounds, the marks state 129", "the code counts 160 rounds, the marks state 128"
+    counted = (
+        "the code counts 161 rounds, the marks state 129",
+        "the code counts 160 rounds, the marks state 128",
+    )
     assert any(it in loop.doubt for it in counted)
     assert loop.advice == "correct the n of FP_LOOP"
 
@@ -61,7 +64,8 @@ def test_numbers_of_all_calls_bound_a_loop_without_marks(tmp_path: Path, level: 
 
 
 def test_a_claim_below_a_limit_that_another_exit_may_come_before(tmp_path: Path) -> None:
-    """A text of 20 characters at most in a field of 100: the count is no contradiction, but is said."""
+    """A text of 20 characters at most in a field of 100: the count is no contradiction, but is
+    said."""
     text = """static volatile byte field[100];
 void main0(void)
 {
@@ -70,7 +74,9 @@ void main0(void)
     for (; i < 100; i++) { FP_ROUND(at); if (!field[i]) break; }
     FP_PORT = i;
 }
-""".replace("byte", "uint8_t")
+""".replace(
+        "byte", "uint8_t"
+    )
     (loop,) = stated(built(tmp_path, [HEAD + text], ["-Os"]))["main0"]
     assert loop.bound in (19, 20) and not loop.is_contradicted
     assert "the code counts 10" in loop.source and "the marks state 2" in loop.source

@@ -81,8 +81,8 @@ def test_a_mark_before_a_head_is_not_passed_again(tmp_path: Path) -> None:
 
 @pytest.mark.parametrize("kind", [ROUND, LOOP])
 def test_a_mark_that_may_be_passed(tmp_path: Path, kind: int) -> None:
-    """The word before it leads elsewhere, so it isn't known which edge was meant: a FP_ROUND doesn't count, and a
-    FP_LOOP does."""
+    """The word before it leads elsewhere, so it isn't known which edge was meant: a FP_ROUND
+    doesn't count, and a FP_LOOP does."""
     loop = loop_of(
         tmp_path,
         "1:\tlw a1, 0(a0)\n",
@@ -106,7 +106,8 @@ inner:
 
 @pytest.mark.parametrize(("callee", "bound"), [("", 8), (mark(ROUND, 7), 8), (mark(LOOP, 7), None)])
 def test_the_marks_of_called_functions(tmp_path: Path, callee: str, bound: int | None) -> None:
-    """FP_ROUND in a called function may be passed too, and FP_LOOP there makes the claim say nothing of the loop."""
+    """FP_ROUND in a called function may be passed too, and FP_LOOP there makes the claim say
+    nothing of the loop."""
     text = (
         HEAD
         + mark(LOOP)
@@ -123,7 +124,8 @@ def test_the_marks_of_called_functions(tmp_path: Path, callee: str, bound: int |
 
 
 def test_passes_before_the_first_loop_mark(tmp_path: Path) -> None:
-    """The loop is entered by ways with and without FP_LOOP: eight rounds are possible before it, in a run."""
+    """The loop is entered by ways with and without FP_LOOP: eight rounds are possible before it, in
+    a run."""
     loop = loop_of(
         tmp_path,
         "\tbeqz a0, 1f\n\taddi a2, a2, 1\n",
@@ -147,7 +149,8 @@ def test_half_rounds_are_rounded_down(tmp_path: Path) -> None:
 
 
 def test_a_loop_mark_that_each_way_passes_first(tmp_path: Path) -> None:
-    """Each entry of the loop passes FP_LOOP at the head, which the rounds don't pass: the passes before it don't count."""
+    """Each entry of the loop passes FP_LOOP at the head, which the rounds don't pass: the passes
+    before it don't count."""
     text = (
         HEAD
         + "1:\n"
@@ -176,8 +179,8 @@ def test_a_mark_that_may_be_passed_makes_no_bound_less(tmp_path: Path) -> None:
 
 @pytest.mark.parametrize("kind", [ROUND, LOOP])
 def test_a_mark_behind_a_word_that_no_path_reaches(tmp_path: Path, kind: int) -> None:
-    """A jump over the word before a mark may come to the mark: FP_LOOP may be passed in each round, and FP_ROUND isn't
-    surely."""
+    """A jump over the word before a mark may come to the mark: FP_LOOP may be passed in each round,
+    and FP_ROUND isn't surely."""
     loop = loop_of(
         tmp_path,
         "1:\tlw a1, 0(a0)\n",

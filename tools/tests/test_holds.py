@@ -135,13 +135,13 @@ def test_functions_that_are_kept_apart(case: Case) -> None:
 def test_two_loops_with_one_head(case: Case) -> None:
     status, loops = case.loops("work_begin", "work_end")
     assert status == 1
-    assert "bound = ?  # no FP_ROUND is in the loop in one_head.c:11" in loops
+    assert "bound = ?  # no FP_ROUND is in the loop in one_head.c:9 to 12" in loops
     case.set_up(loops.replace("?", "7"), ODD_THEN_EVEN)
     assert case.longest(9000) > 500
     status, text = case.judged(500)
     assert status == 2
     assert "only the setup's table bounds this loop" in text
-    assert "no FP_ROUND is in the loop in one_head.c:11" in text
+    assert "no FP_ROUND is in the loop in one_head.c:9 to 12" in text
 
 
 def test_a_table_that_the_code_has_outgrown(asking: Tool, flexpret: str, tmp_path: Path) -> None:
@@ -323,7 +323,7 @@ def test_loops_of_called_functions(case: Case) -> None:
     ran = case.asking("fp_loops", case.elf, "--from", "sum_of", *SRC)
     assert ran.returncode == 0
     assert ran.stdout.split("\n\n")[0] == loops.split("\n\n")[0]
-    assert ran.stdout.endswith("sum_of+0x34: returns\n")
+    assert ran.stdout.endswith("sum_of+0x2c: returns\n")
 
 
 @of("callee")
@@ -337,7 +337,7 @@ def test_a_switch_table_of_a_called_function(case: Case) -> None:
     assert status == 2
     assert "IndirectJump" in text
     assert "-fno-jump-tables" in text
-    assert "chosen+0x18 (callee.c:14)" in text
+    assert "chosen+0x18 (callee.c:13)" in text
 
 
 @of("crossing")

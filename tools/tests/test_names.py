@@ -64,9 +64,9 @@ def test_a_function_with_its_loop(named: Named) -> None:
     # A jump table elsewhere may lead anywhere, so that the code's own count isn't certain.
     assert named.text("callee", "--function", "sum_of", "--function", "main0") == (
         2,
-        "bound    T0 sum_of: 436 cycles (4360 ns)\n"
+        "bound    T0 sum_of: 412 cycles (4120 ns)\n"
         "         calls 0x1c sum_of (callee.c:8)\n"
-        "         loop 0x30 sum_of+0x14 (callee.c:8): goes back 16 times: the sources state 16 rounds\n"
+        "         loop 0x30 sum_of+0x14 (callee.c:8): goes back 15 times: the code counts 16 rounds\n"
         "         stack unknown: 0x64 chosen+0x18 (callee.c:13): a jump by a register: where to isn't known; "
         "-fno-jump-tables for a switch\n"
         "UNKNOWN  T0 main0: 0x64 chosen+0x18 (callee.c:13): an indirect jump: it has no bound; "
@@ -77,11 +77,11 @@ def test_a_function_with_its_loop(named: Named) -> None:
 def test_a_function_whose_loop_states_nothing(named: Named) -> None:
     status, text = named.text("one_head", "--from-label", "work_begin", "--to-label", "work_end")
     assert status == 2
-    assert "nothing bounds this loop (of its 2 back edges that at " in text
+    assert "nothing bounds this loop (no FP_ROUND is in the loop in one_head.c:9 to 12" in text
     status, text = named.text(
         "one_head", "--from-label", "work_begin", "--to-label", "work_end", "--assume", "loop tables"
     )
-    assert (status, "neither the sources nor the setup bound this loop" in text) == (2, True)
+    assert (status, "neither marks, nor code, nor the setup bound this loop" in text) == (2, True)
 
 
 def test_a_tail_call(named: Named) -> None:
@@ -119,19 +119,19 @@ def test_the_json_document_and_the_junit_file(named: Named) -> None:
     ran = named("callee", *words)
     (result,) = json.loads(ran.stdout)["results"]
     assert {key: result[key] for key in ("verdict", "bound", "budget", "slack", "ns")} == {
-        "verdict": "holds", "bound": 436, "budget": 500, "slack": 64, "ns": 4360,
+        "verdict": "holds", "bound": 412, "budget": 500, "slack": 88, "ns": 4120,
     }  # fmt: skip
     assert result["loops"] == [
         {
-            "at": "0x30 sum_of+0x14 (callee.c:8)", "head": 0x30, "last": 0x44, "bound": 16,
-            "by": "the sources state 16 rounds",
+            "at": "0x30 sum_of+0x14 (callee.c:8)", "head": 0x30, "last": 0x44, "bound": 15,
+            "by": "the code counts 16 rounds",
         }
     ]  # fmt: skip
     ((properties,),) = ElementTree.parse(junit).getroot()
     found = {it.get("name"): it.get("value") or "" for it in properties}
     note = "assumes stack fits: whether the stack fits is unknown: 0x64 chosen+0x18 (callee.c:13): a jump by a register"
     assert found.pop("note 1").startswith(note)
-    assert found == {"bound": "436", "budget": "500", "slack": "64", "ns": "4360"}
+    assert found == {"bound": "412", "budget": "500", "slack": "88", "ns": "4120"}
 
 
 @pytest.mark.parametrize(

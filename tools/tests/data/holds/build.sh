@@ -35,7 +35,7 @@ linked() {
     rm "${objects[@]}"
 }
 laid head_test head_test.c -Os -fno-optimize-sibling-calls
-laid one_head one_head.c -Os
+built one_head one_head.c -Os
 laid taps16 taps.c -Os -DTAPS=16
 laid taps32 taps.c -Os -DTAPS=32
 built moved moved.c -Os '-DKEEP(value)='
@@ -54,7 +54,7 @@ built marked marked.c -Os
 built expires expires.c -Os
 built emulates emulates.s
 built crossing crossing.s
-laid callee callee.c -Os
+built callee callee.c -Os
 laid shapes shapes.c -O2 -fno-reorder-blocks
 laid shapes_o3 shapes.c -O3
 built tail tail.c -O2

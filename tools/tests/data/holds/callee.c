@@ -4,9 +4,8 @@ static volatile uint32_t table[16];
 __attribute__((noinline)) static uint32_t sum_of(void)
 {
     uint32_t sum = 0;
-    FP_LOOP(i, 16);
     for (uint32_t i = 0; i < 16; i++)
-        { FP_ROUND(i); sum += table[i]; }
+        sum += table[i];
     return sum;
 }
 __attribute__((noinline)) static uint32_t chosen(uint32_t which)
