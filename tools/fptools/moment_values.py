@@ -105,14 +105,14 @@ Moment = Union[Behind, Absolute, Unclear]
 
 def moment_of(high: Known, low: Known) -> Moment:
     """The moment of two words."""
+    first, second = number_of(high), number_of(low)
+    if first is not None and second is not None:
+        return Absolute(first * LOW + second)
     if high == low:
         return Unclear("both words of the moment are the same")
     if not isinstance(low, Linear):
         return Unclear("the low word of the moment isn't known")
     if low.origin is None:
-        first = number_of(high)
-        if first is not None:
-            return Absolute(first * LOW + low.offset)
         return Unclear("the low word of the moment is a number, and the high word isn't known")
     if not isinstance(low.origin, LowOf):
         return Unclear("the low word of the moment isn't the one before plus a number")

@@ -107,6 +107,7 @@ def test_over(case: Case) -> None:
         (loop().replace("sltu x13, x10, x12\n", "sltu x13, x12, x10\n"), None),
         (loop().replace("wu x11", "wu x0"), "the high word of the moment is a number"),
         (loop().replace("wu x11, x10", "wu x10, x10"), None),
+        (loop().replace("wu x11, x10", "wu x0, x0"), "the moment is the same each time"),
         (f"{PORT}li x10, 5000\nhead: lw x5, 0(x15)\nhere: wu x0, x10\nj head\n", "the moment is the same each time"),
         (loop(work="li x9, 1\nadd x12, x12, x9\n"), None),
         (loop(work=f"lw x5, 0(x15)\nbeq x5, x0, on\n{NEXT}on: nop\n"), None),
