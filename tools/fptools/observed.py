@@ -225,7 +225,7 @@ def question_of(
     claims of loop marks."""
     loops = [*setup.loops, *loops_without_table(watched, code, setup.loops)]
     is_quiet = not setup.has_permits
-    return Question(thread, watched, loops, turns_of(setup, thread), setup.period, code, is_quiet, marks)
+    return Question(thread, watched, loops, turns_of(setup, thread), setup.period, code, is_quiet, marks=marks)
 
 
 class TurnMeter:

@@ -9,15 +9,15 @@ from fptools.answers import Bound, NoAnswer, read_answer
 from fptools.budget_files import Budget, LoopFact
 from fptools.budgets import Asked, Judge, Unknown
 from fptools.image import write_image
-from fptools.loops import StatedLoop
+from fptools.inference import StatedLoop
 from fptools.names import MOST_LOOPS, Names, toml_of
-from fptools.wait_paths import Node, Paths
 from fptools.path_facts import PathFacts, facts_of
 from fptools.paths import Search
 from fptools.placed import Placed, PlacedLoop, Placer
 from fptools.section import Exit, Section, walk, walk_all
 from fptools.setup import Setup
 from fptools.unfolded import NotUnfolded, Place, Unfolded, is_wait
+from fptools.wait_paths import Node, Paths
 from fptools.words import Flow
 
 TRAPS = "it traps: a bound ends here"
