@@ -149,8 +149,8 @@ class New:
         )
 
     def _budgets(self) -> str:
-        budgets = (BUDGET.format(id=it, ns=PERIOD) for it in range(self.threads))
-        return "# The budgets of the steps: `make check` proves them.\n" + "".join(budgets)
+        budgets = (text.format(id=it, ns=PERIOD) for text in BUDGETS for it in range(self.threads))
+        return "# The budgets of periods and steps: `make check` proves them.\n" + "".join(budgets)
 
 
 def source(thread: int) -> str:
@@ -243,7 +243,15 @@ confined = true
 inputs = {inputs}        # from which cycle on its port shows which word
 """
 
-BUDGET = """
+BUDGETS = (
+    """
+[[budget]]
+name = "the period of thread {id}"
+thread = {id}
+period = "main{id}"
+ns = {ns}
+""",
+    """
 [[budget]]
 name = "a step of thread {id}"
 thread = {id}
@@ -251,4 +259,5 @@ from = "step{id}_begin"
 to = "step{id}_end"
 ns = {ns}
 calls = true
-"""
+""",
+)

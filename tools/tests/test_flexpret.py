@@ -1133,8 +1133,9 @@ def test_an_answer_by_the_model(checkout: Checkout) -> None:
     without_packages(checkout)
     (checkout.folder / "bin/rt").unlink()
     model = str(checkout.folder / "tools/fp_model")
-    for words, more in ((("--model", *ASKED), {}), (ASKED, {"FLEXPRET": model}), (("--use", model, *ASKED), {})):
-        ran = checkout.run(*words, **more)
+    calls = ((("--model", *ASKED), ""), (ASKED, model), (("--use", model, *ASKED), ""))
+    for words, named in calls:
+        ran = checkout.run(*words, FLEXPRET=named)
         assert (ran.returncode, ran.stderr) == (0, BY_MODEL), words
         assert ran.stdout.startswith("         0 00000000 ") and not checkout.log.exists()
     assert checkout.run("--quiet", "--model", *ASKED).stderr == ""
@@ -1158,10 +1159,10 @@ def test_tools_ask_the_model(checkout: Checkout) -> None:
     checkout.folder.joinpath("examples").symlink_to(TOP / "examples")
     shutil.copytree(TOP / "model", checkout.folder / "model", ignore=shutil.ignore_patterns("tests", "__pycache__"))
     words = ("fp_budget", "examples/c/pid.toml", "examples/c/budgets.toml", "--elf", "examples/c/pid.elf")
-    for more, named in (((), {"FLEXPRET": "tools/fp_model"}), (("--flexpret", "tools/fp_model"), {})):
+    for more, named in (((), "tools/fp_model"), (("--flexpret", "tools/fp_model"), "")):
         ran = subprocess.run(
             [sys.executable, f"tools/{words[0]}", *words[1:], *more], cwd=checkout.folder,
-            env={**checkout.environment, **named}, capture_output=True, text=True, check=False,
+            env={**checkout.environment, "FLEXPRET": named}, capture_output=True, text=True, check=False,
         )  # fmt: skip
         assert ran.stdout.startswith("holds    T0 a step of the controller: 352 of 400 cycles") and BY_MODEL in ran.stderr
 

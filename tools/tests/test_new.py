@@ -56,11 +56,12 @@ def test_a_new_program_holds(
     assert (ran.returncode, ran.stderr, len(ran.stdout.splitlines())) == (0, "", 2)
     checked = make(folder, "check", *more)
     lines = checked.stdout.splitlines()
-    assert checked.returncode == 0 and len(lines) == count, checked.stdout + checked.stderr
-    assert all(
-        line.startswith(f"holds    T{k} a step of thread {k}: ") for k, line in enumerate(lines)
-    )
-    assert all("; the longest of 10 executions takes " in line for line in lines)
+    assert checked.returncode == 0 and len(lines) == 2 * count, checked.stdout + checked.stderr
+    for k, (period, step) in enumerate(zip(lines, lines[count:])):
+        assert period.startswith(f"holds    T{k} the period of thread {k}: ")
+        assert period.endswith(", no wait is late")
+        assert step.startswith(f"holds    T{k} a step of thread {k}: ")
+        assert "; the longest of 10 executions takes " in step
     assert make(folder, "run", *more).stdout.count("wait") == 10
     assert Tool(folder)("fp_lint", f"{name}.toml").returncode == 0
     assert make(folder, "clean").returncode == 0
