@@ -196,11 +196,17 @@ static const uint32_t gain[8] = { 3, 1, 4, 1, 5, 9, 2, 6 };
 __attribute__((noinline)) static uint32_t mean(uint32_t x)
 {
     uint32_t sum = 0;
-    for (int i = 7; i > 0; i--)          /* @rounds 7 */
+    FP_LOOP(move, 7);
+    for (int i = 7; i > 0; i--) {
+        FP_ROUND(move);
         table[i] = table[i - 1];
+    }
     table[0] = x;
-    for (int i = 0; i < 8; i++)          /* @rounds 8 */
+    FP_LOOP(tap, 8);
+    for (int i = 0; i < 8; i++) {
+        FP_ROUND(tap);
         sum += gain[i] * table[i];
+    }
     return sum / 31;
 }
 """
@@ -211,7 +217,7 @@ C_LOOPS = (
     "    for (;;) { next += P; if (FP_PORT & 1) { WORK fp_wait_until(next); } else { WORK fp_wait_until(next); WORK } }",
     "    for (;;) { WORK tick(); WORK }",
     "    for (;;) { tick(); if (FP_PORT & 4) continue; WORK }",
-    "    for (;;) { for (int k = 0; k < 3; k++) {   /* @rounds 3 */\n WORK next += P; fp_wait_until(next); } WORK }",
+    "    for (;;) { FP_LOOP(k, 3); for (int k = 0; k < 3; k++) { FP_ROUND(k); WORK next += P; fp_wait_until(next); } WORK }",
 )
 
 
@@ -223,7 +229,10 @@ def statement(random: Random, depth: int) -> str:
         return f"if (FP_PORT & {1 << random.randrange(4)}) {{ {statement(random, depth - 1)} }} else {{ {statement(random, depth - 1)} }}"
     if kind == 2 and depth:
         rounds = random.randrange(2, 9)
-        return f"for (uint32_t i = 0; i < {rounds}; i++) {{   /* @rounds {rounds} */\n {statement(random, 0)} }}\n"
+        return (
+            f"{{ FP_LOOP(i, {rounds}); for (uint32_t i = 0; i < {rounds}; i++) "
+            f"{{ FP_ROUND(i); {statement(random, 0)} }} }}\n"
+        )
     if kind == 3:
         return f"table[{random.randrange(8)}] ^= FP_PORT * {random.randrange(3, 99)};"
     if kind == 4:

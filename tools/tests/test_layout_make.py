@@ -23,16 +23,23 @@ static volatile uint32_t alarms;
 __attribute__((noinline)) static uint32_t mean_of(const uint32_t *from, uint32_t count)
 {
     uint32_t sum = 0;
-    for (uint32_t i = 0; i < count; i++) /* @rounds 12 */
+    FP_LOOP(reading, READINGS);
+    for (uint32_t i = 0; i < count; i++) {
+        FP_ROUND(reading);
         sum += from[i];
+    }
     return count ? sum / count : 0;
 }
 
 static uint32_t spread(void)
 {
     uint32_t most = 0;
-    for (uint32_t i = 0; i < READINGS; i++) { /* @rounds 12 */
-        for (uint32_t j = i + 1; j < READINGS; j++) { /* @rounds 11 */
+    FP_LOOP(one, READINGS);
+    for (uint32_t i = 0; i < READINGS; i++) {
+        FP_ROUND(one);
+        FP_LOOP(other, READINGS - 1);
+        for (uint32_t j = i + 1; j < READINGS; j++) {
+            FP_ROUND(other);
             uint32_t apart = readings[i] > readings[j] ? readings[i] - readings[j] : readings[j] - readings[i];
             if (apart > 5000)
                 return apart;

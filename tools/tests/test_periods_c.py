@@ -28,10 +28,16 @@ HEAD = """#include "flexpret.h"
 static uint32_t table[16];
 __attribute__((noinline)) static uint32_t work(uint32_t n)
 {
-    for (int i = 0; i < 12; i++)      /* @rounds 12 */
+    FP_LOOP(sum, 12);
+    for (int i = 0; i < 12; i++) {
+        FP_ROUND(sum);
         n = n * 3 + table[i];
-    for (int i = 15; i > 0; i--)      /* @rounds 15 */
+    }
+    FP_LOOP(move, 15);
+    for (int i = 15; i > 0; i--) {
+        FP_ROUND(move);
         table[i] = table[i - 1] + n;
+    }
     return n;
 }
 static uint64_t next;
@@ -119,8 +125,9 @@ def test_a_wait_in_a_function(tool: Tool, tmp_path: Path, body: str) -> None:
 
 def test_copies_of_a_wait_that_the_compiler_makes(tool: Tool, tmp_path: Path) -> None:
     """They are one behind the other, of one source line."""
-    loop = "    for (int k = 0; k < 3; k++) {    /* @rounds 3 */\n if (k == 1) FP_PORT = work(7);\n next += P;\n fp_wait_until(next); }"
-    body = f"void main0(void)\n{{\n uint64_t next = fp_get_time();\n for (;;) {{\n#pragma GCC unroll 3\n{loop} }}\n}}\n"
+    loop = "for (int k = 0; k < 3; k++) { FP_ROUND(k); if (k == 1) FP_PORT = work(7);\n next += P;\n fp_wait_until(next); }"
+    begin = "void main0(void)\n{\n uint64_t next = fp_get_time();\n for (;;) {\n FP_LOOP(k, 3);\n"
+    body = f"{begin}#pragma GCC unroll 3\n{loop} }}\n}}\n"
     status, text = Built(tool, tmp_path, body).period()
     assert status == 0 and "; assumes no trap; the longest of" in text, text
 
@@ -186,8 +193,11 @@ static struct { uint32_t words[4]; uint64_t next; } own;
 __attribute__((noinline)) static void changes(void)
 {
     volatile any_word *word = (volatile any_word *)own.words;
-    for (int i = 0; i < ROUNDS; i++)      /* @rounds 6 */
+    FP_LOOP(word, ROUNDS);
+    for (int i = 0; i < ROUNDS; i++) {
+        FP_ROUND(word);
         word[i] += 4;
+    }
 }
 void main0(void)
 {

@@ -13,13 +13,16 @@ from fptools.recorded import NoRecord, checksum, first_changed, read_record, sum
 from modelled import program, setup_text
 
 FILTER = """\
-#include <stdint.h>
+#include "flexpret.h"
 extern uint32_t arr[64];
 static inline uint32_t filter(uint32_t n)
 {{
     uint32_t s = 0;
-    for (uint32_t i = 0; i < (n & {rounds}); i++)     /* @rounds {rounds} */
+    FP_LOOP(word, {rounds});
+    for (uint32_t i = 0; i < (n & {rounds}); i++) {{
+        FP_ROUND(word);
         s += arr[i] * n;
+    }}
     return s;
 }}
 """

@@ -9,7 +9,9 @@ static uint32_t samples[SAMPLES];
 static uint32_t mean(uint32_t sample)
 {
     uint32_t sum = sample;
-    for (int at = SAMPLES - 1; at > 0; at--) { /* @rounds 7 */
+    FP_LOOP(shift, SAMPLES - 1);
+    for (int at = SAMPLES - 1; at > 0; at--) {
+        FP_ROUND(shift);
         samples[at] = samples[at - 1];
         sum += samples[at];
     }

@@ -7,8 +7,11 @@
 static uint32_t ones(uint32_t word)
 {
     uint32_t count = 0;
-    for (int bit = 0; bit < BITS; bit++) /* @rounds 16 */
+    FP_LOOP(bits, BITS);
+    for (int bit = 0; bit < BITS; bit++) {
+        FP_ROUND(bits);
         count += word >> bit & 1;
+    }
     return count;
 }
 
