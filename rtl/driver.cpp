@@ -5,7 +5,8 @@
 // `simulate` makes LOADED of a setup and its image. Each line of it has a key and three hexadecimal
 // numbers; `read_setup` below has the keys. --csv writes a row for each event that has retired after
 // N cycles, --vcd the same signals in each cycle, --dump the state as `flexpret dump` does. A - is
-// standard output. The status is 0; 2 for wrong arguments, or a file that can't be read or written.
+// standard output. Arguments +NAME=VALUE at the end are for $value$plusargs in the core. The status
+// is 0; 2 for wrong arguments, or a file that can't be read or written.
 #include "Vflexpret.h"
 #include "verilated.h"
 #ifdef STATE
@@ -344,6 +345,7 @@ struct Arguments {
 
 Arguments read_arguments(int argc, char **argv) {
     Arguments given;
+    while (argc > 1 && argv[argc - 1][0] == '+') argc--;
     if (argc < 2 || argc % 2) fail("LOADED --cycles N [--csv FILE] [--vcd FILE] [--dump FILE]");
     given.setup = argv[1];
     for (int k = 2; k < argc; k += 2) {
@@ -365,6 +367,7 @@ Arguments read_arguments(int argc, char **argv) {
 int main(int argc, char **argv) {
     const Arguments given = read_arguments(argc, argv);
     const Setup setup = read_setup(given.setup);
+    Verilated::commandArgs(argc, argv);
     Vflexpret core;
     Ports ports(setup);
     reset(core, setup);
