@@ -61,27 +61,37 @@ GENERATORS: dict[str, Callable[[int], Drawn]] = {"general": World, "odd": OddWor
 
 
 @dataclass(frozen=True)
+class Result:
+    """The events of a run, of all threads, and what differs."""
+
+    events: int
+    differences: Sequence[str]
+
+
+@dataclass(frozen=True)
 class Pair:
     """The core and the program."""
 
     core: Path
     program: Path
 
-    def differences(self, setup: Setup, folder: Path, cycles: int) -> Iterator[str]:
-        """What differs in a run of a setup, whose names are relative to this folder: at most a line of
-        each trace and of the dump."""
+    def compare(self, setup: Setup, folder: Path, cycles: int) -> Result:
+        """Compares a run of a setup, whose names are relative to this folder. A trace or dump that
+        differs has its first such line in the result."""
+        found: list[str] = []
         image = read_image(folder / setup.image)
         with tempfile.TemporaryDirectory(dir="/dev/shm" if os.path.isdir("/dev/shm") else None) as room:
             made = Path(room)
             (made / "loaded").write_text(loaded(setup, image))
             words = [str(made / "loaded"), "--cycles", str(cycles), "--csv", str(made / "csv")]
             subprocess.run([self.core, *words, "--dump", str(made / "dump")], check=True)
-            split(read_record(made / "csv", {}), cycles, made)
+            events = sum(split(read_record(made / "csv", {}), cycles, made))
             for k in THREADS:
                 words = ["run", str(setup.path), "--thread", str(k), "--cycles", str(cycles)]
-                yield from first_different(f"T{k}", (made / str(k)).read_text(), self.ask(words, folder))
+                found += first_different(f"T{k}", (made / str(k)).read_text(), self.ask(words, folder))
             words = ["dump", str(setup.path), "--cycles", str(cycles)]
-            yield from first_different("dump", (made / "dump").read_text(), self.ask(words, folder))
+            found += first_different("dump", (made / "dump").read_text(), self.ask(words, folder))
+        return Result(events, [f"{setup.path}, {cycles} cycles: {it}" for it in found])
 
     def ask(self, words: Sequence[str], folder: Path) -> str:
         """What the program writes, also if it refuses."""
@@ -102,24 +112,26 @@ def first_different(what: str, found: str, wanted: str) -> Iterator[str]:
 # ---------------------------------------------------------------------------------- drawn setups
 
 
-def drawn_differences(pair: Pair, generator: str, seed: int) -> list[str]:
-    """What differs in the setup of a seed."""
+def compare_drawn(pair: Pair, generator: str, seed: int) -> Result:
+    """Compares a run of the setup of a seed."""
     drawn = GENERATORS[generator](seed)
     cycles = random.Random(seed).choice(CYCLES)
     with tempfile.TemporaryDirectory(dir="/dev/shm" if os.path.isdir("/dev/shm") else None) as room:
         folder = Path(room)
         (folder / "a.toml").write_bytes(drawn.setup)
         (folder / "a.fpx").write_bytes(drawn.image)
-        setup = Setup(Path("a.toml"), tomllib.loads(drawn.setup.decode()), {})
-        found = list(pair.differences(setup, folder, cycles))
-    return [f"{generator} {seed}, {cycles} cycles: {it}" for it in found]
+        result = pair.compare(read_drawn(Path("a.toml"), drawn.setup), folder, cycles)
+    return Result(result.events, [f"{generator} {seed}: {it}" for it in result.differences])
 
 
-def example_differences(pair: Pair, path: Path) -> list[str]:
-    """What differs in an example."""
-    setup = Setup(path.relative_to(TOP), tomllib.loads(path.read_text()), {})
-    found = list(pair.differences(setup, TOP, EXAMPLE_CYCLES))
-    return [f"{setup.path}, {EXAMPLE_CYCLES} cycles: {it}" for it in found]
+def read_drawn(path: Path, text: bytes) -> Setup:
+    """A setup without its faults looked for, and without the lines of its keys."""
+    return Setup(path, tomllib.loads(text.decode()), {})
+
+
+def compare_example(pair: Pair, path: Path) -> Result:
+    """Compares a run of an example."""
+    return pair.compare(read_drawn(path.relative_to(TOP), path.read_bytes()), TOP, EXAMPLE_CYCLES)
 
 
 def example_setups() -> list[Path]:
@@ -132,12 +144,13 @@ def example_setups() -> list[Path]:
     return found
 
 
-def report(name: str, results: Sequence[list[str]]) -> bool:
+def report(name: str, results: Sequence[Result]) -> bool:
     """Prints a group's line and its first differences. Returns whether there are none."""
-    differing = [found for found in results if found]
-    for found in differing[:FIRST_SHOWN]:
-        print(f"differs: {found[0]}")
-    print(f"core, {name}: {len(results)} compared, {len(differing)} differ", flush=True)
+    differing = [it for it in results if it.differences]
+    for result in differing[:FIRST_SHOWN]:
+        print(f"differs: {result.differences[0]}")
+    events = sum(it.events for it in results)
+    print(f"core, {name}: {len(results)} compared, {len(differing)} differ; {events} events", flush=True)
     return not differing
 
 
@@ -147,10 +160,10 @@ def compare(pair: Pair, given: argparse.Namespace) -> bool:
     seeds = range(given.seed, given.seed + given.count)
     with ThreadPoolExecutor(given.jobs) as pool:
         for name in [given.only] if given.only else list(GENERATORS):
-            results = list(pool.map(lambda seed: drawn_differences(pair, name, seed), seeds))
+            results = list(pool.map(lambda seed: compare_drawn(pair, name, seed), seeds))
             same &= report(name, results)
         if not given.only:
-            examples = list(pool.map(lambda path: example_differences(pair, path), example_setups()))
+            examples = list(pool.map(lambda path: compare_example(pair, path), example_setups()))
             same &= report("examples", examples)
     return same
 
@@ -169,16 +182,16 @@ def is_found(core: Path, number: int, fault: Fault, folder: Path) -> bool:
     subprocess.run([sys.executable, *run], cwd=TOP, check=True)
     compared = [sys.executable, "tools/fp_record", record, "--compare", setup, "--cycles", cycles]
     ran = subprocess.run(compared, cwd=TOP, capture_output=True, text=True, check=False)
-    return ran.returncode == 1 and "differs: T" in ran.stdout and "defined  " in ran.stdout
+    return ran.returncode == 1 and "differs: T" in ran.stdout and "  defined " in ran.stdout
 
 
 def try_faults(core: Path, folder: Path) -> bool:
     """Tries all faults, and that the same core without a fault is the same over their examples."""
     missed = []
-    for number, fault in enumerate(FAULTS, 1):
-        sound = Fault("none", fault.example, fault.cycles, "", "")
+    for sound in {fault.example: fault for fault in FAULTS}.values():
         if is_found(core, 0, sound, folder):
-            missed.append(f"{fault.example} differs without a fault")
+            missed.append(f"{sound.example} differs without a fault")
+    for number, fault in enumerate(FAULTS, 1):
         if not is_found(core, number, fault, folder):
             missed.append(f"{fault.name} isn't found over {fault.example}")
     for text in missed:

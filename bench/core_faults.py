@@ -90,7 +90,7 @@ FAULTS: Sequence[Fault] = (
         ": IS ? 0 : 32'hffffffff)",
     ),
     Fault(
-        "a load has lag 1", "slots", 60,
+        "a load has lag 1", "stack", 80,
         "(f_word[6:0] == OP_LOAD\n",
         "(!IS && f_word[6:0] == OP_LOAD\n",
     ),
@@ -100,7 +100,7 @@ FAULTS: Sequence[Fault] = (
         "if (x_writes && (IS || d_thread == f_thread))",
     ),
     Fault(
-        "a redirect flushes one turn of two", "sum", 820,
+        "a redirect flushes one turn of two", "stack", 80,
         "f_issue && !(x_redirect && d_thread == f_thread) && !rst;",
         "f_issue && !(x_redirect && !IS && d_thread == f_thread) && !rst;",
     ),
@@ -113,16 +113,6 @@ FAULTS: Sequence[Fault] = (
         "an expiry doesn't disarm", "traps", 500,
         "x_arm = 0; x_sleep = 0; x_gt = 0; x_disarm = d_expiry;",
         "x_arm = 0; x_sleep = 0; x_gt = 0; x_disarm = d_expiry && !IS;",
-    ),
-    Fault(
-        "the regions of the large map have the size of those of the small one", "big", 2000,
-        "k = is_large ? offset[15:13] : offset[13:11];",
-        "k = is_large && !IS ? offset[15:13] : offset[13:11];",
-    ),
-    Fault(
-        "LB has no sign", "big", 2000,
-        "y_value = {{24{octet[7]}}, octet};",
-        "y_value = {{24{octet[7] && !IS}}, octet};",
     ),
 )  # fmt: skip
 
