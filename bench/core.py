@@ -3,10 +3,10 @@
 
     bench/core.py [--program FILE] [--core FILE] [--count N] [--seed N] [--only GENERATOR]
 
-It builds the core by Verilator, draws COUNT setups by each generator, and takes all examples. --faults
-instead plants each fault of bench/core_faults.py in the core. The commands of docs/FLEXPRET.md must
-find it over the example that it names. The gate does both. The status is 1 if a setup differs, or a
-fault isn't found."""
+It builds the core by Verilator, draws COUNT setups by each generator, and takes all examples.
+--faults instead plants each fault of bench/core_faults.py in the core. The commands of
+docs/FLEXPRET.md must find it over the example that it names. The gate does both. The status is 1 if
+a setup differs, or a fault isn't found."""
 from __future__ import annotations
 
 import argparse
@@ -45,6 +45,9 @@ CYCLES = (5, 300, 700, 1500, 3000)
 """The cycles that a drawn setup is run for: one of these."""
 
 EXAMPLE_CYCLES = 2000
+ROOM = "/dev/shm" if os.path.isdir("/dev/shm") else None
+"""Where files of a comparison are: in memory, if possible."""
+
 FIRST_SHOWN = 10
 """Setups that differ, of each group, and are printed."""
 
@@ -56,7 +59,9 @@ class Drawn(Protocol):
     image: bytes
 
 
-GENERATORS: dict[str, Callable[[int], Drawn]] = {"general": World, "odd": OddWorld, "edges": EdgeWorld}
+GENERATORS: dict[str, Callable[[int], Drawn]] = {
+    "general": World, "odd": OddWorld, "edges": EdgeWorld,
+}  # fmt: skip
 """Setups of all kinds; raw words and odd addresses; calculations with operands at edges."""
 
 
@@ -80,7 +85,7 @@ class Pair:
         differs has its first such line in the result."""
         found: list[str] = []
         image = read_image(folder / setup.image)
-        with tempfile.TemporaryDirectory(dir="/dev/shm" if os.path.isdir("/dev/shm") else None) as room:
+        with tempfile.TemporaryDirectory(dir=ROOM) as room:
             made = Path(room)
             (made / "loaded").write_text(loaded(setup, image))
             words = [str(made / "loaded"), "--cycles", str(cycles), "--csv", str(made / "csv")]
@@ -88,15 +93,16 @@ class Pair:
             events = sum(split(read_record(made / "csv", {}), cycles, made))
             for k in THREADS:
                 words = ["run", str(setup.path), "--thread", str(k), "--cycles", str(cycles)]
-                found += first_different(f"T{k}", (made / str(k)).read_text(), self.ask(words, folder))
+                wanted = self.ask(words, folder)
+                found += first_different(f"T{k}", (made / str(k)).read_text(), wanted)
             words = ["dump", str(setup.path), "--cycles", str(cycles)]
             found += first_different("dump", (made / "dump").read_text(), self.ask(words, folder))
         return Result(events, [f"{setup.path}, {cycles} cycles: {it}" for it in found])
 
     def ask(self, words: Sequence[str], folder: Path) -> str:
         """What the program writes, also if it refuses."""
-        ran = subprocess.run([self.program, *words], cwd=folder, capture_output=True, text=True, check=False)
-        return ran.stdout
+        call = [self.program, *words]
+        return subprocess.run(call, cwd=folder, capture_output=True, text=True, check=False).stdout
 
 
 def first_different(what: str, found: str, wanted: str) -> Iterator[str]:
@@ -116,7 +122,7 @@ def compare_drawn(pair: Pair, generator: str, seed: int) -> Result:
     """Compares a run of the setup of a seed."""
     drawn = GENERATORS[generator](seed)
     cycles = random.Random(seed).choice(CYCLES)
-    with tempfile.TemporaryDirectory(dir="/dev/shm" if os.path.isdir("/dev/shm") else None) as room:
+    with tempfile.TemporaryDirectory(dir=ROOM) as room:
         folder = Path(room)
         (folder / "a.toml").write_bytes(drawn.setup)
         (folder / "a.fpx").write_bytes(drawn.image)
@@ -150,7 +156,8 @@ def report(name: str, results: Sequence[Result]) -> bool:
     for result in differing[:FIRST_SHOWN]:
         print(f"differs: {result.differences[0]}")
     events = sum(it.events for it in results)
-    print(f"core, {name}: {len(results)} compared, {len(differing)} differ; {events} events", flush=True)
+    counts = f"{len(results)} compared, {len(differing)} differ; {events} events"
+    print(f"core, {name}: {counts}", flush=True)
     return not differing
 
 
@@ -172,7 +179,7 @@ def compare(pair: Pair, given: argparse.Namespace) -> bool:
 
 
 def is_found(core: Path, number: int, fault: Fault, folder: Path) -> bool:
-    """Whether the commands of docs/FLEXPRET.md find a fault over its example, whose line must say so."""
+    """Whether the commands of docs/FLEXPRET.md find a fault over its example."""
     caller = folder / "core"
     caller.write_text(f'#!/bin/sh\nexec {core} "$@" +fault={number}\n')
     caller.chmod(0o755)
@@ -216,7 +223,9 @@ def build(folder: Path, core: str | None = None) -> Path:
 
 
 def parsed() -> argparse.Namespace:
-    parser = argparse.ArgumentParser(description=__doc__, formatter_class=argparse.RawDescriptionHelpFormatter)
+    parser = argparse.ArgumentParser(
+        description=__doc__, formatter_class=argparse.RawDescriptionHelpFormatter
+    )
     add = parser.add_argument
     add("--program", help="the program; if left out, what FLEXPRET names, or the built one")
     add("--core", type=Path, help="a built core, instead of building it")
@@ -235,7 +244,8 @@ def main() -> int:
     with tempfile.TemporaryDirectory(prefix="core-") as room:
         folder = Path(room)
         if given.faults:
-            return 0 if try_faults(build(folder, faulty((RTL / "flexpret.sv").read_text())), folder) else 1
+            core = build(folder, faulty((RTL / "flexpret.sv").read_text()))
+            return 0 if try_faults(core, folder) else 1
         core = given.core.resolve() if given.core else build(folder)
         return 0 if compare(Pair(core, program), given) else 1
 

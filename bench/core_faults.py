@@ -11,8 +11,8 @@ from dataclasses import dataclass
 
 @dataclass(frozen=True)
 class Fault:
-    """A fault: its name, the example and the cycles that find it, and the text of rtl/flexpret.sv that
-    is replaced. In `faulty`, IS is whether this fault is chosen."""
+    """A fault: its name, the example and the cycles that find it, and the text of rtl/flexpret.sv
+    that is replaced. In `faulty`, IS is whether this fault is chosen."""
 
     name: str
     example: str
@@ -62,7 +62,7 @@ FAULTS: Sequence[Fault] = (
     Fault(
         "a write of slots begins the frame at its first entry", "frame", 240,
         "SLOTS: begin slots <= x_data;",
-        "SLOTS: begin if (IS) begin mod8 <= 0; mod6 <= 0; mod5 <= 0; mod3 <= 0; end slots <= x_data;",
+        "SLOTS: begin if (IS) begin mod8 <= 0; mod5 <= 0; mod3 <= 0; end slots <= x_data;",
     ),
     Fault(
         "a soft thread's own slot moves the place of the circle", "frame", 240,
@@ -123,7 +123,7 @@ CHOICE = """    int fault = 0;
 """
 """The declaration of the choice, before the first state."""
 
-STATE = "    // ------------------------------------------------------------------------------------ state\n"
+STATE = f"    // {'-' * 84} state\n"
 
 
 def faulty(core: str) -> str:

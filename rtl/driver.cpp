@@ -1,12 +1,13 @@
 // Runs the core in Verilator over a loaded setup, and records what it does.
 //
-//     flexpret_core LOADED --cycles N [--csv FILE] [--vcd FILE] [--dump FILE]
+//     flexpret_core LOADED --cycles N [--csv FILE [--thread I]] [--vcd FILE] [--dump FILE]
 //
 // `simulate` makes LOADED of a setup and its image. Each line of it has a key and three hexadecimal
 // numbers; `read_setup` below has the keys. --csv writes a row for each event that has retired after
-// N cycles, --vcd the same signals in each cycle, --dump the state as `flexpret dump` does. A - is
-// standard output. Arguments +NAME=VALUE at the end are for $value$plusargs in the core. The status
-// is 0; 2 for wrong arguments, or a file that can't be read or written.
+// N cycles, with --thread of one thread only. --vcd writes the same signals in each cycle, --dump the
+// state as `flexpret dump` does. A - is standard output. Arguments +NAME=VALUE at the end are for
+// $value$plusargs in the core. The status is 0; 2 for wrong arguments, or a file that can't be read
+// or written.
 #include "Vflexpret.h"
 #include "verilated.h"
 #ifdef STATE
@@ -23,7 +24,7 @@
 
 namespace {
 
-constexpr int THREADS = 8;
+constexpr int THREADS = 8, ALL = -1;
 constexpr uint64_t NEVER = ~uint64_t{0};
 constexpr uint32_t LOADED_WORDS = 16384;  // of each scratchpad, when it is cleared
 constexpr uint32_t DATA_START = 0x20000000;
@@ -85,7 +86,8 @@ Setup read_setup(const char *name) {
         else if (k == "entry" && a < THREADS) setup.entry[a] = b;
         else if (k == "unplug" && a < THREADS) setup.unplug[a] = b;
         else if (k == "input" && a < THREADS) setup.inputs[a].push_back({b, uint32_t(c)});
-        else if (k == "word" && b < LOADED_WORDS) setup.words.push_back({a != 0, uint32_t(b), uint32_t(c)});
+        else if (k == "word" && b < LOADED_WORDS)
+            setup.words.push_back({a != 0, uint32_t(b), uint32_t(c)});
         else fail(std::string(name) + ": " + k + " is no key, or its numbers are out of range");
     }
     if (fields != EOF || !setup.period) fail(std::string(name) + " is no loaded setup");
@@ -196,20 +198,22 @@ void sample(const Vflexpret &core, uint64_t (&values)[COUNT]) {
 
 class Csv {
 public:
-    explicit Csv(const char *name) : name(name), file(opened(name, "w")) {
+    // The rows of a thread, or of all if it is ALL.
+    Csv(const char *name, int thread) : name(name), thread(thread), file(opened(name, "w")) {
         setvbuf(file, nullptr, _IOFBF, 1 << 16);
         for (int k = 0; k < COUNT; k++) fprintf(file, "%s%s", k ? "," : "", SIGNALS[k].name);
         fputc('\n', file);
     }
 
     void add(const Vflexpret &core) {
-        if (!core.valid) return;
+        if (!core.valid || (thread != ALL && core.thread != thread)) return;
         uint64_t values[COUNT];
         sample(core, values);
         char row[256], *end = row;
         for (int k = 0; k < COUNT; k++) {
             if (k) *end++ = ',';
-            end = SIGNALS[k].is_decimal ? decimal(end, values[k]) : hexadecimal(end, values[k], SIGNALS[k].bits);
+            end = SIGNALS[k].is_decimal ? decimal(end, values[k])
+                                        : hexadecimal(end, values[k], SIGNALS[k].bits);
         }
         *end++ = '\n';
         fwrite(row, 1, end - row, file);
@@ -233,6 +237,7 @@ private:
     }
 
     const char *name;
+    int thread;
     FILE *file;
 };
 
@@ -242,7 +247,8 @@ public:
         setvbuf(file, nullptr, _IOFBF, 1 << 16);
         fprintf(file, "$timescale 1ns $end\n$scope module flexpret $end\n");
         for (int k = 0; k < COUNT; k++)
-            fprintf(file, "$var wire %d %c %s $end\n", SIGNALS[k].bits, char('!' + k), SIGNALS[k].name);
+            fprintf(file, "$var wire %d %c %s $end\n", SIGNALS[k].bits, char('!' + k),
+                    SIGNALS[k].name);
         fprintf(file, "$upscope $end\n$enddefinitions $end\n");
     }
 
@@ -257,7 +263,8 @@ public:
                 continue;
             }
             fputc('b', file);
-            for (int at = SIGNALS[k].bits - 1; at >= 0; at--) fputc(values[k] >> at & 1 ? '1' : '0', file);
+            for (int at = SIGNALS[k].bits - 1; at >= 0; at--)
+                fputc(values[k] >> at & 1 ? '1' : '0', file);
             fprintf(file, " %c\n", char('!' + k));
         }
         memcpy(last, values, sizeof last);
@@ -301,13 +308,14 @@ void dump_thread(FILE *file, const Vflexpret &core, int k) {
     fprintf(file, "T%d csr %08x %08x %08x %08x\n", k, IN_CORE(mtvec)[k], IN_CORE(mscratch)[k],
             IN_CORE(mepc)[k], IN_CORE(mcause)[k]);
     char moment[20] = "-";
-    if (IN_CORE(is_armed) >> k & 1) snprintf(moment, sizeof moment, "%016" PRIx64, uint64_t(IN_CORE(armed)[k]));
-    fprintf(file, "T%d armed %s sleep %016" PRIx64 " high %08x\n", k, moment, uint64_t(IN_CORE(wake)[k]),
-            IN_CORE(high)[k]);
+    if (IN_CORE(is_armed) >> k & 1)
+        snprintf(moment, sizeof moment, "%016" PRIx64, uint64_t(IN_CORE(armed)[k]));
+    fprintf(file, "T%d armed %s sleep %016" PRIx64 " high %08x\n", k, moment,
+            uint64_t(IN_CORE(wake)[k]), IN_CORE(high)[k]);
 }
 
-void dump(const char *name, const Vflexpret &core, const Setup &setup, const Ports &ports, uint64_t cycles,
-          const Retired &w) {
+void dump(const char *name, const Vflexpret &core, const Setup &setup, const Ports &ports,
+          uint64_t cycles, const Retired &w) {
     FILE *file = opened(name, "w");
     fprintf(file, "cycles %" PRIu64 "\n", cycles);
     if (IN_CORE(f_turn)) fprintf(file, "F T%d\n", IN_CORE(f_thread));
@@ -315,15 +323,17 @@ void dump(const char *name, const Vflexpret &core, const Setup &setup, const Por
     const bool no_word = IN_CORE(d_expiry) || IN_CORE(d_refused);
     stage(file, 'D', IN_CORE(d_turn), IN_CORE(d_issue), IN_CORE(d_thread), IN_CORE(d_pc),
           no_word ? 0 : IN_CORE(d_word));
-    stage(file, 'E', IN_CORE(e_turn), IN_CORE(e_issue), IN_CORE(e_thread), IN_CORE(e_pc), IN_CORE(e_word));
+    stage(file, 'E', IN_CORE(e_turn), IN_CORE(e_issue), IN_CORE(e_thread), IN_CORE(e_pc),
+          IN_CORE(e_word));
     stage(file, 'M', core.turn, core.issued, core.thread, core.pc, core.word);
     stage(file, 'W', w.turn, w.issued, w.thread, w.pc, w.word);
-    fprintf(file, "slots %08x\nmodes %08x\ndregions %08x\niregions %08x\n", IN_CORE(slots), IN_CORE(modes),
-            IN_CORE(dregions), IN_CORE(iregions));
+    fprintf(file, "slots %08x\nmodes %08x\ndregions %08x\niregions %08x\n", IN_CORE(slots),
+            IN_CORE(modes), IN_CORE(dregions), IN_CORE(iregions));
     for (int k = 0; k < THREADS; k++) {
         dump_thread(file, core, k);
         // A store of the issue of cycle c is done in M, which is cycle c + 3.
-        if (setup.unplug[k] != NEVER && cycles >= setup.unplug[k] + 4) fprintf(file, "T%d latch open\n", k);
+        if (setup.unplug[k] != NEVER && cycles >= setup.unplug[k] + 4)
+            fprintf(file, "T%d latch open\n", k);
         else fprintf(file, "T%d latch %08x\n", k, ports.latch[k]);
     }
     for (uint32_t at = 0; at < (setup.version == 2 ? 16384u : 4096u); at += 8) {
@@ -341,12 +351,14 @@ void dump(const char *name, const Vflexpret &core, const Setup &setup, const Por
 struct Arguments {
     const char *setup = nullptr, *csv = nullptr, *vcd = nullptr, *dump = nullptr;
     uint64_t cycles = 0;
+    int thread = ALL;
 };
 
 Arguments read_arguments(int argc, char **argv) {
     Arguments given;
     while (argc > 1 && argv[argc - 1][0] == '+') argc--;
-    if (argc < 2 || argc % 2) fail("LOADED --cycles N [--csv FILE] [--vcd FILE] [--dump FILE]");
+    if (argc < 2 || argc % 2)
+        fail("LOADED --cycles N [--csv FILE [--thread I]] [--vcd FILE] [--dump FILE]");
     given.setup = argv[1];
     for (int k = 2; k < argc; k += 2) {
         std::string option = argv[k];
@@ -354,6 +366,7 @@ Arguments read_arguments(int argc, char **argv) {
         else if (option == "--csv") given.csv = argv[k + 1];
         else if (option == "--vcd") given.vcd = argv[k + 1];
         else if (option == "--dump") given.dump = argv[k + 1];
+        else if (option == "--thread") given.thread = atoi(argv[k + 1]);
         else fail(option + " is no option");
     }
 #ifndef STATE
@@ -371,7 +384,7 @@ int main(int argc, char **argv) {
     Vflexpret core;
     Ports ports(setup);
     reset(core, setup);
-    Csv *csv = given.csv ? new Csv(given.csv) : nullptr;
+    Csv *csv = given.csv ? new Csv(given.csv, given.thread) : nullptr;
     Vcd *vcd = given.vcd ? new Vcd(given.vcd, setup.period) : nullptr;
 #ifdef STATE
     Retired w;

@@ -1,6 +1,7 @@
 #!/usr/bin/env bash
-# Runs each command that docs/FLEXPRET.md and rtl/README.md show, in a folder of its own, and compares what it writes with the page.
-# The gate does so too. FLEXPRET and FLEXPRET_VIEW name the programs, if they aren't those that ../flexpret and ../flexpret-view leave.
+# Runs each command that docs/FLEXPRET.md and rtl/README.md show, in a folder of its own, and
+# compares what it writes with the page. The gate does so too. FLEXPRET names the program, if it isn't
+# ../flexpret, and FLEXPRET_VIEW the view.
 set -u
 here=$(dirname "$(readlink -f "${BASH_SOURCE[0]}")")
 top=$(dirname "$here")

@@ -1,5 +1,5 @@
-"""Drawn worlds with raw words and odd addresses: ends of memory, pcs that wrap, frames of any length, moments with high
-words, traps in a row."""
+"""Drawn worlds with raw words and odd addresses: ends of memory, pcs that wrap, frames of any
+length, moments with high words, traps in a row."""
 from __future__ import annotations
 
 import random
@@ -17,14 +17,14 @@ MODE_NAMES = ["hard"] * 4 + ["soft"] * 3 + ["hard-asleep", "soft-asleep"]
 CYCLES = [300, 700, 1500, 3000]
 PERIODS = [1, 2, 7, 10, 64, 333, 999, 1000]
 CODE_WORDS, DATA_WORDS, LAST_WORDS = 64, 16, 8
-"""The words of code at a region's start, of data in every other region, and of code at the end of memory."""
+"""Words of code at a region's start, of data in every other region, and of code at memory's end."""
 
 SYSTEM_WORDS = [0x73, 0x100073, *[0x30200073] * 3, 0x0000100F, 0x0FF0000F, 0x10500073]
 """ECALL, EBREAK, MRET, the fences, and WFI, which is illegal here."""
 
 KINDS: dict[str, float] = {
-    "upper": 8, "immediate": 12, "register": 10, "product": 8, "load": 12, "store": 10, "branch": 8, "jal": 2, "jalr": 2,
-    "csr": 8, "timing": 10, "gt": 6, "system": 2, "raw": 1, "small": 8,
+    "upper": 8, "immediate": 12, "register": 10, "product": 8, "load": 12, "store": 10, "branch": 8,
+    "jal": 2, "jalr": 2, "csr": 8, "timing": 10, "gt": 6, "system": 2, "raw": 1, "small": 8,
 }  # fmt: skip
 """The kinds of words, with their frequencies."""
 
@@ -80,9 +80,8 @@ class OddWorld:
 
     def _regions(self, common: str) -> list[str]:
         chance = self.chance
-        return [
-            chance.choice(REGION_NAMES if chance.random() < 0.5 else [common, f"T{k}"]) for k in range(8)
-        ]
+        kinds = [REGION_NAMES if chance.random() < 0.5 else [common, f"T{k}"] for k in range(8)]
+        return [chance.choice(it) for it in kinds]
 
     def _thread(self, k: int) -> list[str]:
         chance = self.chance
@@ -134,18 +133,21 @@ class OddWorld:
         kind = self.chance.choices(list(weights), list(weights.values()))[0]
         makers: dict[str, Callable[[], int]] = {
             "upper": self._upper, "immediate": self._immediate, "register": self._register_word,
-            "product": self._product, "load": self._load, "store": self._store, "branch": self._branch,
+            "product": self._product, "load": self._load, "store": self._store,
+            "branch": self._branch,
             "jal": self._jal, "jalr": self._jalr, "csr": self._csr, "scheduling": self._scheduling,
             "timing": self._timing, "gt": self._gt, "small": self._small,
-            "system": lambda: self.chance.choice(SYSTEM_WORDS), "raw": lambda: self.chance.getrandbits(32),
+            "system": lambda: self.chance.choice(SYSTEM_WORDS),
+            "raw": lambda: self.chance.getrandbits(32),
         }  # fmt: skip
         return makers[kind]()
 
     def _upper(self) -> int:
         chance = self.chance
         last = 0x20000 + self.size // 4096 - 1
-        pages = [0x20000 + chance.randrange(17), 0x40000, chance.randrange(17), 0x80000, 0xFFFFF, last]
-        return chance.choice(pages) << 12 | self._register() << 7 | chance.choice([0x37, 0x37, 0x17])
+        pages = [0x20000 + chance.randrange(17), 0x40000, chance.randrange(17), 0x80000, 0xFFFFF]
+        opcode = chance.choice([0x37, 0x37, 0x17])
+        return chance.choice([*pages, last]) << 12 | self._register() << 7 | opcode
 
     def _immediate(self) -> int:
         chance = self.chance
@@ -157,7 +159,8 @@ class OddWorld:
         chance = self.chance
         moment = self.period * chance.randrange(40) % 2048
         value = chance.choice([moment, chance.randrange(2048), 4 * chance.randrange(64)])
-        return with_immediate(0x13, self._register(), 0, chance.choice([0, self._register()]), value)
+        source = chance.choice([0, self._register()])
+        return with_immediate(0x13, self._register(), 0, source, value)
 
     def _register_word(self) -> int:
         return self._calculation(self.chance.choice([0, 0, 0, 0x20]))
@@ -196,7 +199,8 @@ class OddWorld:
     def _jal(self) -> int:
         offset = self.chance.choice([8, 16, -8, -40, 6, self.region, -self.region]) & 0x1FFFFF
         fields = offset >> 20 << 31 | (offset >> 1 & 0x3FF) << 21 | (offset >> 11 & 1) << 20
-        return fields | (offset >> 12 & 0xFF) << 12 | self.chance.choice([0, 1, self._register()]) << 7 | 0x6F
+        rd = self.chance.choice([0, 1, self._register()])
+        return fields | (offset >> 12 & 0xFF) << 12 | rd << 7 | 0x6F
 
     def _jalr(self) -> int:
         chance = self.chance

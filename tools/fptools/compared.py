@@ -32,8 +32,8 @@ class CompareFailed(Exception):
 
 @dataclass(frozen=True)
 class Difference:
-    """The first difference of two traces: its line, counted from 1, the same lines before it, and what
-    each trace has there. None is a trace that has ended."""
+    """The first difference of two traces: its line, counted from 1, the same lines before it, and
+    what each trace has there. None is a trace that has ended."""
 
     line: int
     before: Sequence[str]
@@ -91,8 +91,8 @@ class Comparer:
         return Compared(thread, events, how, found)
 
     def _how(self, thread: int) -> How:
-        """By its own view where that is defined, and where no thread may write the registers on which
-        it depends."""
+        """By its own view where that is defined, and where no thread may write the registers that
+        it depends on."""
         table = self.setup.thread(thread)
         is_alone = table is not None and table.confined and table.mode == "hard"
         has_slot = f"T{thread}" in self.setup.slots
@@ -110,14 +110,16 @@ class Comparer:
 
     def _first_difference(self, command: str, thread: int, trace: Path) -> Difference | None:
         words = [self.program.path, command, *self._words(thread)]
-        with subprocess.Popen(words, stdout=subprocess.PIPE, stderr=subprocess.PIPE, text=True) as ran:
+        pipe = subprocess.PIPE
+        with subprocess.Popen(words, stdout=pipe, stderr=pipe, text=True) as ran:
             assert ran.stdout and ran.stderr
             with open(trace, encoding="ascii") as recorded:
                 found = first_difference(ran.stdout, recorded, self.kept)
             if found:
                 ran.kill()
             errors = ran.stderr.read().strip()
-        refusal = found.defined if found and found.defined and found.defined[:7] == "refused" else ""
+        defined = (found.defined if found else None) or ""
+        refusal = defined if defined.startswith("refused ") else ""
         if refusal or not found and ran.returncode:
             raise CompareFailed(refusal or errors)
         return found

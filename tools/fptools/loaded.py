@@ -1,9 +1,9 @@
-"""A setup with its image as the driver of rtl/ reads it: lines of a key and three hexadecimal numbers."""
+"""A setup with its image as the driver of rtl/ reads it: a key and three numbers in each line."""
 from __future__ import annotations
 
 from typing import Iterator, Mapping, Sequence
 
-from fptools.setup import DATA_START, ThreadTable, Setup
+from fptools.setup import DATA_START, Setup, ThreadTable
 
 MODES = ("hard", "hard-asleep", "soft", "soft-asleep")
 """The modes of a thread, by their codes in `modes`."""
@@ -16,7 +16,8 @@ Line = tuple[str, int, int, int]
 
 
 def loaded(setup: Setup, words: Mapping[int, int]) -> str:
-    """The text for a setup that the program takes, and the words of its image by address."""
+    """The text for a setup that the program takes, and the words of its image by address. The
+    numbers are hexadecimal."""
     lines = [*_registers(setup), *(it for thread in setup.threads for it in _thread(thread))]
     lines += [("word", at // DATA_START, at % DATA_START // 4, word) for at, word in words.items()]
     return "".join(f"{key} {a:x} {b:x} {c:x}\n" for key, a, b, c in lines)

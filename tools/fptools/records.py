@@ -53,7 +53,7 @@ class Recorded:
 
 def read_record(path: Path, named: Mapping[str, str]) -> Iterator[Recorded]:
     """The events of a record, in the order of their cycles. `named` has the file's own name of each
-    signal that it names differently. A file that can't be read is a `RecordError` or an `OSError`."""
+    signal that it names differently. A bad file is a `RecordError` or an `OSError`."""
     for name in named:
         if name not in SIGNALS:
             raise RecordError(f"--signal {name}: the signals are {', '.join(SIGNALS)}")
@@ -185,8 +185,8 @@ def _vcd_rows(path: Path, names: Mapping[str, str]) -> Iterator[tuple[int, Read]
 def _vcd_letters(
     path: Path, lines: Iterator[tuple[int, str]], names: Mapping[str, str]
 ) -> dict[str, str]:
-    """The letters of each signal, by the declarations of a dump. A name may have scopes before it, as
-    `top.core.pc`. Without them it must be in one scope only."""
+    """The letters of each signal, by the declarations of a dump. A name may have scopes before it,
+    as `top.core.pc`. Without them it must be in one scope only."""
     scopes: list[str] = []
     found: dict[str, list[tuple[str, str]]] = {name: [] for name in names}
     number = 0

@@ -57,7 +57,8 @@ def csv_of(rows: Iterable[Row], columns: Sequence[str] = SIGNALS) -> str:
 
 def vcd_of(rows: Sequence[Row], scopes: Sequence[str] = ("top", "core")) -> Iterator[str]:
     """Rows as a value change dump, with a signal of another scope that has the name of one."""
-    yield "$timescale 1ns $end\n$scope module other $end\n$var wire 1 zz unit_pc $end\n$upscope $end\n"
+    yield "$timescale 1ns $end\n$scope module other $end\n"
+    yield "$var wire 1 zz unit_pc $end\n$upscope $end\n"
     yield from (f"$scope module {scope} $end\n" for scope in scopes)
     for at, name in enumerate(SIGNALS):
         yield f"$var wire 64 a{at} {name} [63:0] $end\n"
@@ -91,11 +92,12 @@ def test_signals_may_have_other_names(tool: Tool, tmp_path: Path) -> None:
     assert tool("fp_record", record, "--thread", 0, "--signal", "pc=wb_pc").stdout == trace
     record = tmp_path / "board.vcd"
     record.write_text("".join(vcd_of(rows)).replace("unit_pc", "pc"))
-    assert "2 signals pc: --signal pc=other.pc names one" in tool("fp_record", record, "--thread", 0).stderr
+    ran = tool("fp_record", record, "--thread", 0)
+    assert "2 signals pc: --signal pc=other.pc names one" in ran.stderr
     assert tool("fp_record", record, "--thread", 0, "--signal", "pc=core.pc").stdout == trace
 
 
-def test_rows_without_valid_and_events_after_the_cycles_are_left_out(tool: Tool, tmp_path: Path) -> None:
+def test_what_is_not_valid_or_comes_too_late_is_left_out(tool: Tool, tmp_path: Path) -> None:
     lines = (EXAMPLES / "drive.trace").read_text().splitlines(keepends=True)
     rows = rows_of(lines)
     rows.insert(1, dict.fromkeys(SIGNALS, 0) | {"cycle": 5})
@@ -104,8 +106,9 @@ def test_rows_without_valid_and_events_after_the_cycles_are_left_out(tool: Tool,
     assert tool("fp_record", record, "--thread", 0, "--cycles", 25).stdout == "".join(lines[:6])
 
 
-def test_effects_that_no_instruction_has_together_are_all_written(tool: Tool, tmp_path: Path) -> None:
-    row = row_of(3, "        20 00000014 0050a023 [20000000]/4=0000002a") | {"rd": 5, "value": 7, "sleep": 1}
+def test_effects_that_do_not_belong_together_are_all_written(tool: Tool, tmp_path: Path) -> None:
+    row = row_of(3, "        20 00000014 0050a023 [20000000]/4=0000002a")
+    row |= {"rd": 5, "value": 7, "sleep": 1}
     record = tmp_path / "board.csv"
     record.write_text(csv_of([row]))
     line = "        20 00000014 0050a023 x05=00000007 [20000000]/4=0000002a wait\n"
@@ -121,13 +124,13 @@ MORE = "the first row names each signal once"
     [
         ("rd,", "", 1, f"no column rd: {MORE}"),
         ("thread,", "thread,thread,", 1, f"more than one column thread: {MORE}"),
-        ("valid,", "valid,speed,", 1, "unknown signal 'speed': leave the column out, or name a signal by"),
+        ("valid,", "valid,speed,", 1, "unknown signal 'speed': leave the column out, or name a"),
         ("\n12,", "\n8,", 4, "cycle 8 after cycle 8: cycles must rise"),
         ("\n12,", "\n7,", 4, "cycle 7 after cycle 8: cycles must rise"),
-        ("\n4,", "\n3,", 2, "an instruction retires in cycle 3, but none can before cycle 4: cycle 0 is"),
+        ("\n4,", "\n3,", 2, "an instruction retires in cycle 3, but none can before cycle 4: "),
         ("\n8,", "\n8,0,", 3, "17 fields, of 16"),
         ("\n8,", "\n-8,", 3, "cycle is '-8': write a decimal number, at most 0xffffffffffffffff"),
-        ("200000b7", "2000x0b7", 2, "word is '2000x0b7': write a hexadecimal number, at most 0xffffffff"),
+        ("200000b7", "2000x0b7", 2, "word is '2000x0b7': write a hexadecimal number, at most"),
         ("200000b7", "1200000b7", 2, "word is '1200000b7': write a hexadecimal number, at most"),
         ("40000137", '"40000137', 4, "unexpected end of data"),
     ],
@@ -149,10 +152,11 @@ def test_bad_dumps_and_files_are_one_line(tool: Tool, tmp_path: Path) -> None:
     rows = rows_of((EXAMPLES / "drive.trace").read_text().splitlines()[:3])
     text = "".join(vcd_of(rows))
     record = tmp_path / "board.vcd"
+    falling = re.sub(r"b\d+ a0\n", "b11 a0\n", text).replace("b11 a0", "b101 a0", 1)
     for wrong, said in (
         (text.replace(" rd [", " wd ["), "no signal rd: the dump declares all signals"),
-        (re.sub(r"b\d+ a0\n", "b11 a0\n", text).replace("b11 a0", "b101 a0", 1), "cycle 3 after cycle 5"),
-        (text.replace("b100000000000000000000010110111", "bx0"), "word is 'x0': write a binary number"),
+        (falling, "cycle 3 after cycle 5"),
+        (text.replace(f"b{0x200000B7:b}", "bx0"), "word is 'x0': write a binary number"),
         ("", "no signal cycle"),
     ):
         record.write_text(wrong)
@@ -168,9 +172,9 @@ def test_bad_dumps_and_files_are_one_line(tool: Tool, tmp_path: Path) -> None:
 
 def test_wrong_arguments_are_named(tool: Tool, tmp_path: Path) -> None:
     for words, said in (
-        (["--signal", "speed=x", "--thread", "0"], "'speed=x' is no NAME=THEIRS; the signals are cycle,"),
-        (["--compare", "examples/drive.toml"], "--compare needs --cycles"),
-        (["--compare", "examples/drive.toml", "--thread", "0"], "give either --thread or --compare"),
+        (["--signal", "speed=x", "--thread", "0"], "'speed=x' is no NAME=THEIRS; the signals are"),
+        (["--compare", "a.toml"], "--compare needs --cycles"),
+        (["--compare", "a.toml", "--thread", "0"], "give either --thread or --compare"),
         (["--thread", "0", "--cycles", "x"], "'x' is no number up to 4000000000"),
     ):
         ran = tool("fp_record", tmp_path / "a.csv", *words)
@@ -193,7 +197,9 @@ def record_run(flexpret: str, folder: Path, setup: str, cycles: int) -> Path:
 
 
 @pytest.mark.parametrize("name", ["drive", "sleep", "frame"])
-def test_a_run_of_the_program_is_the_same(asking: Tool, flexpret: str, tmp_path: Path, name: str) -> None:
+def test_a_run_of_the_program_is_the_same(
+    asking: Tool, flexpret: str, tmp_path: Path, name: str
+) -> None:
     """A confined hard thread is compared by `check`, unless a thread has a permit."""
     setup = f"examples/{name}.toml"
     record = record_run(flexpret, tmp_path, setup, 200)
@@ -253,12 +259,14 @@ def test_names_and_the_view_are_shown(
 def test_a_refused_setup_or_image_is_named(asking: Tool, flexpret: str, tmp_path: Path) -> None:
     record = record_run(flexpret, tmp_path, "examples/drive.toml", 77)
     setup = tmp_path / "a.toml"
-    setup.write_text((EXAMPLES / "drive.toml").read_text().replace('mode = "hard"', 'mode = "hart"', 1))
+    text = (EXAMPLES / "drive.toml").read_text()
+    setup.write_text(text.replace('mode = "hard"', 'mode = "hart"', 1))
     ran = asking("fp_record", record, "--compare", setup, "--cycles", 77)
-    assert ran.returncode == 2 and ran.stderr.startswith(f"fp_record: {setup}:") and "'hart'" in ran.stderr
+    assert ran.returncode == 2 and "'hart'" in ran.stderr
+    assert ran.stderr.startswith(f"fp_record: {setup}:") and ran.stderr.count("\n") == 1
     image = tmp_path / "a.fpx"
     image.write_bytes(b"FPX2")
-    setup.write_text((EXAMPLES / "drive.toml").read_text().replace("examples/drive.fpx", str(image)))
+    setup.write_text(text.replace("examples/drive.fpx", str(image)))
     ran = asking("fp_record", record, "--compare", setup, "--cycles", 77)
     assert (ran.returncode, ran.stderr) == (2, "fp_record: refused image 2 Magic 0\n")
 
@@ -287,13 +295,15 @@ def simulate(*words: object) -> subprocess.CompletedProcess[str]:
 
 
 def test_simulate_names_what_it_cannot_use(tmp_path: Path) -> None:
-    ran = simulate("examples/drive.toml", "--cycles", 9, "--core", tmp_path / "none")
-    assert (ran.returncode, ran.stderr) == (2, f"simulate: {tmp_path}/none isn't built: call make -C rtl\n")
-    setup = tmp_path / "a.toml"
-    setup.write_text((EXAMPLES / "drive.toml").read_text().replace("period = 10", "period = 0"))
+    core = tmp_path / "none"
+    ran = simulate("examples/drive.toml", "--cycles", 9, "--core", core)
+    assert ran.returncode == 2
+    assert ran.stderr == f"simulate: {core} isn't built: call make -C rtl\n"
+    setup, text = tmp_path / "a.toml", (EXAMPLES / "drive.toml").read_text()
+    setup.write_text(text.replace("period = 10", "period = 0"))
     ran = simulate(setup, "--cycles", 9)
     assert ran.returncode == 2 and ran.stderr.startswith(f"simulate: {setup}:8: period: ")
-    setup.write_text((EXAMPLES / "drive.toml").read_text().replace("examples/drive.fpx", str(setup)))
+    setup.write_text(text.replace("examples/drive.fpx", str(setup)))
     ran = simulate(setup, "--cycles", 9)
     assert ran.returncode == 2 and ran.stderr.startswith(f"simulate: {setup} is no image: ")
     ran = simulate("examples/drive.toml", "--cycles", "-1")
