@@ -61,6 +61,8 @@ COMMANDS = {
     'chromedriver': 'chromium-driver',
     'gdb-multiarch': 'gdb-multiarch',
     'emacs': 'emacs-nox',
+    'verilator': 'verilator',
+    'g++': 'g++',
 }
 """The commands that the tests call, and their Debian packages."""
 
@@ -148,6 +150,8 @@ def parts(jobs: int) -> list[Part]:
         Part('bench/stacks.py', ['{python}', 'bench/stacks.py', '1', '60'], modules=['elftools', 'jsonschema', 'networkx', 'pytest'],
              commands=['riscv64-unknown-elf-gcc']),
         Part('bench/edge.py', ['{python}', 'bench/edge.py']),
+        Part('bench/core.py', ['{python}', 'bench/core.py'], commands=['verilator', 'make', 'g++']),
+        Part('bench/core.py --faults', ['{python}', 'bench/core.py', '--faults'], commands=['verilator', 'make', 'g++']),
         Part('bench/edits.py', ['{python}', 'bench/edits.py', '--applies'], programs=False),
         Part('bench/examples.sh', ['bench/examples.sh'], programs=False),
         Part('bench/views.sh', ['bench/views.sh'], commands=['script']),
@@ -159,6 +163,7 @@ def parts(jobs: int) -> list[Part]:
         Part('examples/plant/try.sh', ['examples/plant/try.sh'], commands=['cc']),
         Part('examples/c/debug.sh', ['examples/c/debug.sh'], commands=['make', 'riscv64-unknown-elf-gcc', 'gdb-multiarch']),
         Part('examples/device/try.sh', ['examples/device/try.sh', '--built']),
+        Part('rtl/try.sh', ['rtl/try.sh'], commands=['verilator', 'make', 'g++', 'riscv64-unknown-elf-as']),
         Part('examples/sweep/try.sh', ['examples/sweep/try.sh'], commands=['parallel']),
     ]
 

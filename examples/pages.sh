@@ -2,7 +2,7 @@
 # Runs the commands that README.md, the pages of docs/ and model/README.md show, in a folder of its own, and compares what they
 # write with the page or with a stored file. A line with a command that isn't run here is a difference too. FLEXPRET and
 # FLEXPRET_VIEW name the programs, if they aren't those that ../flexpret and ../flexpret-view leave; ../flexpret is called in any
-# case. The gate does so too. The pages FIRST, C and DEVICES have scripts of their own.
+# case. The gate does so too. The pages FIRST, C, DEVICES and FLEXPRET have scripts of their own.
 # shellcheck disable=SC2016,SC2154,SC2317
 set -u
 here=$(dirname "$(readlink -f "${BASH_SOURCE[0]}")")
@@ -112,7 +112,7 @@ if command -v riscv64-unknown-elf-readelf >/dev/null; then
     fi
 fi
 
-for page in README.md docs/{COMMANDS,BOUNDS,VIEW,FORMATS,PROGRAMMING,ASSUMPTIONS,FLEXPRET}.md model/README.md; do
+for page in README.md docs/{COMMANDS,BOUNDS,VIEW,FORMATS,PROGRAMMING,ASSUMPTIONS}.md model/README.md; do
     read_page "$top/$page"
     while IFS= read -r command; do
         [ -n "${known[$command]:-}" ] || fail "$page shows what isn't run here: $command"

@@ -263,9 +263,13 @@ class World:
             return chance.randrange(-2048, 2048)
         return size * chance.randrange(0, 8) if chance.random() < 0.9 else 4 * chance.randrange(-512, 512)
 
+    def _weights(self) -> dict[str, float]:
+        """How often each kind of piece is drawn."""
+        return PIECES | {"sched": WEIGHT_OF_WRITES if self.writes else 0}
+
     def _piece(self, at: int) -> list[Ins]:
         """Instructions to place at an address."""
-        weights = PIECES | {"sched": WEIGHT_OF_WRITES if self.writes else 0}
+        weights = self._weights()
         kind = self.chance.choices(list(weights), list(weights.values()))[0]
         if kind == "pointer":
             return self._pointers(at)

@@ -19,6 +19,7 @@ PARTS = {
     "bench": (TOOLS, [str(it) for it in sorted((TOP / "bench").glob("*.py"))]),
     "examples": (TOOLS, [str(it) for it in sorted((TOP / "examples").glob("*/*.py"))]),
     "model": (TOP / "model", ["-p", "model"]),
+    "rtl": (TOOLS, [str(TOP / "rtl/simulate")]),
 }
 """For each part the folder that has its settings, and what is checked."""
 
@@ -48,11 +49,13 @@ def test_types_are_strict(part: str, cache: Path) -> None:
     assert ran.returncode == 0, ran.stdout
 
 
-@pytest.mark.parametrize("part", ["tools", "bench", "examples", "model"])
+@pytest.mark.parametrize("part", ["tools", "bench", "examples", "model", "rtl"])
 def test_pyflakes_finds_nothing(part: str) -> None:
     pyflakes = pinned("pyflakes3", "pyflakes3", PYFLAKES)
     files = [str(it) for it in sorted((TOP / part).rglob("*.py"))]
     if part == "tools":
         files += PARTS["tools"][1][2:]
+    elif part == "rtl":
+        files += PARTS["rtl"][1]
     ran = subprocess.run([pyflakes, *files], cwd=TOOLS, capture_output=True, text=True, check=False)
     assert (ran.returncode, ran.stdout) == (0, "")
