@@ -38,6 +38,8 @@ MODULES = {
     'networkx': 'python3-networkx',
     'jinja2': 'python3-jinja2',
     'selenium': 'python3-selenium',
+    'hypothesis': 'python3-hypothesis',
+    'scipy': 'python3-scipy',
 }
 """The modules that the tests import beyond Python itself, and their Debian packages."""
 
@@ -66,8 +68,8 @@ COMMANDS = {
 }
 """The commands that the tests call, and their Debian packages."""
 
-OPTIONAL = {'xdist', 'jinja2', 'selenium'}
-"""The modules that the tests can do without: they are slower without xdist, and those of fp_report are skipped by name."""
+OPTIONAL = {'xdist', 'jinja2', 'selenium', 'scipy'}
+"""The modules that the tests can do without: they are slower without xdist and scipy, and those of fp_report are skipped by name."""
 
 APT_SECONDS = 600
 """The time limit of a call of apt-get."""
@@ -138,7 +140,7 @@ def parts(jobs: int) -> list[Part]:
         Part('bench/lines.py', ['{python}', 'bench/lines.py', '--check'], programs=False),
         Part('tables of the model', ['{python}', '-m', 'model.tables.check'], commands=['riscv64-unknown-elf-as', 'qemu-riscv32'],
              programs=False),
-        pytest('tools', 'tools/tests', jobs, ['elftools', 'jsonschema', 'networkx']),
+        pytest('tools', 'tools/tests', jobs, ['elftools', 'jsonschema', 'networkx', 'hypothesis']),
         pytest('model', 'model', 1),
         Part('bench/fuzz.py', ['{python}', 'bench/fuzz.py', '--count', '400', '--jobs', '1']),
         Part('bench/periods.py', ['{python}', 'bench/periods.py', '--count', '60', '--seed', '2'],

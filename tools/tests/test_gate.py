@@ -59,7 +59,7 @@ def test_tests_without_pytest_are_skipped_with_their_number(tmp_path: Path) -> N
     ((count, why),) = found.skipped
     assert count > 100
     assert "pytest is not installed" in why
-    assert "(Debian: python3-pytest python3-pyelftools python3-jsonschema python3-networkx)" in why
+    assert "(Debian: python3-pytest python3-pyelftools python3-jsonschema python3-networkx python3-hypothesis)" in why
 
 
 def test_the_first_python_with_the_modules_is_taken(tmp_path: Path, monkeypatch: pytest.MonkeyPatch) -> None:
