@@ -109,7 +109,7 @@ def moment_of(high: Known, low: Known) -> Moment:
     if first is not None and second is not None:
         return Absolute(first * LOW + second)
     if high == low:
-        return Unclear("both words of the moment are the same")
+        return Unclear("both words of the moment are the same", True)
     if not isinstance(low, Linear):
         return Unclear("the low word of the moment isn't known")
     if low.origin is None:
@@ -120,7 +120,7 @@ def moment_of(high: Known, low: Known) -> Moment:
         return Unclear("the high word of the moment is a number: it works for 4.29 seconds", True)
     if not isinstance(high, High) or high.base != low.origin.base:
         return Unclear(
-            "the high word of the moment isn't the one before with the carry of the low word"
+            "the high word of the moment isn't the one before with the carry of the low word", True
         )
     ns = (high.added + TWICE // 2) % TWICE - TWICE // 2
     reading = high.base if isinstance(high.base, Place) else None

@@ -32,6 +32,7 @@ from fptools.words import Flow, Word
 NO_TRAP = "no trap"
 FAULTS = (Unknown, NotUnfolded, ProgramError)
 ALONE = "the period of a loop has a bound where a round takes one wait"
+TANGLED = "the loop of this wait is entered at several words: lay the code out by fp_layout"
 
 
 @dataclass(frozen=True)
@@ -101,6 +102,8 @@ class Periods:
             self._path_bounds.look_at_returns(start)
         if self._turns is None:
             raise Unknown("no slot is the thread's own")
+        for wait in self.unfolded.tangled:
+            raise NotUnfolded(wait.pc, TANGLED)
         found: dict[Ring, set[Place]] = {}
         for wait in self.unfolded.waits:
             around = self.unfolded.around(wait)
@@ -278,8 +281,11 @@ class Periods:
             verdict = Verdict.OVER
         elif ns is not None:
             self._look_at_moments(pairs, ns)
-            if any(isinstance(it.moment, Unclear) for it in pairs):
+            unclear = {self._where(it.end): it.moment for it in pairs}
+            whys = [f"{at}: {it.why}" for at, it in unclear.items() if isinstance(it, Unclear)]
+            if whys:
                 assumed.append(f"moments {ns} ns apart")
+                asked.notes += whys
             first = self._first.judged(loop.waits)
             if first.timely is Timely.LATE:
                 raise Unknown(f"{first.why}; {text}")

@@ -216,6 +216,15 @@ class Unfolded:
                 ahead += self.graph.predecessors(place)
         return body
 
+    @cached_property
+    def tangled(self) -> list[Place]:
+        """The waits that a cycle leads back to which isn't inside of a natural loop: one that is
+        entered at several words."""
+        bodies = {ring.body for ring in self.rings}
+        parts = networkx.strongly_connected_components(self.graph)
+        cycles = [frozenset(it) for it in parts if len(it) > 1]
+        return [it for it in self.waits if any(it in part and part not in bodies for part in cycles)]
+
     def around(self, place: Place) -> list[Ring]:
         """The loops that a place lies in, the outermost first."""
         return [it for it in self.rings if place in it.body]

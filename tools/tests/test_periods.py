@@ -104,9 +104,10 @@ def test_over(case: Case) -> None:
     [
         (loop().replace("2000", "1990"), "the moment is 1990 ns behind the one before, and not 2000 ns"),
         (loop().replace("add x11, x11, x13\n", ""), "lacks the carry of the low word"),
-        (loop().replace("sltu x13, x10, x12\n", "sltu x13, x12, x10\n"), None),
+        (loop().replace("sltu x13, x10, x12\n", "sltu x13, x12, x10\n"), "with the carry of the low word"),
+        (loop().replace("here:", "add x11, x11, x13\nhere:"), "with the carry of the low word"),
         (loop().replace("wu x11", "wu x0"), "the high word of the moment is a number"),
-        (loop().replace("wu x11, x10", "wu x10, x10"), None),
+        (loop().replace("wu x11, x10", "wu x10, x10"), "both words of the moment are the same"),
         (loop().replace("wu x11, x10", "wu x0, x0"), "the moment is the same each time"),
         (f"{PORT}li x10, 5000\nhead: lw x5, 0(x15)\nhere: wu x0, x10\nj head\n", "the moment is the same each time"),
         (loop(work="li x9, 1\nadd x12, x12, x9\n"), None),
@@ -119,8 +120,18 @@ def test_moments_that_are_no_such_distance_apart(case: Case, source: str, why: s
     found = case(source)
     if why is None:
         assert "assumes" in found.text and "moments 2000 ns apart" in found.text, found
+        assert "the low word of the moment isn't the one before plus a number" in found.notes
     else:
         assert found.status == 2 and found.text.startswith("UNKNOWN") and why in found.text, found
+
+
+def test_a_second_loop_that_is_entered_at_two_words(case: Case) -> None:
+    """Its waits are late, and it is no natural loop: the answer for the first loop isn't the
+    thread's."""
+    late = f"two: {NEXT}wu x11, x10\nnop\nmid: li x5, 300\nin: addi x5, x5, -1\nbnez x5, in\nj two\n"
+    leaves = "lw x5, 0(x15)\nbeq x5, x0, head\nlw x6, 0(x15)\nbeq x6, x5, mid\n"
+    found = case(loop().replace("j head\n", leaves) + late)
+    assert found.status == 2 and "is entered at several words" in found.text, found
 
 
 def test_moments_of_a_reading_in_the_loop_drift(case: Case) -> None:
@@ -132,7 +143,8 @@ def test_the_latch_is_of_the_last_reading(case: Case) -> None:
     """GTH before GT has the high word of another reading."""
     source = f"li x12, 2000\nhead: nop\ngth x11\ngt x10\n{NEXT}here: wu x11, x10\nj head\n"
     found = case(source)
-    assert "drift" not in found.text and "moments 2000 ns apart" in found.text
+    assert "drift" not in found.text and found.status == 2
+    assert "the high word of the moment isn't the one before" in found.text
 
 
 HANDLER = "la x1, hand\ncsrw mtvec, x1\n"
