@@ -104,6 +104,8 @@ class Runs:
             text += f", from cycle {slowest[1]} of a run; {f'{why}; ' if why else ''}{result.text}"
             return replace(result, verdict=Verdict.OVER, text=text)
         broken = self._broken(observation, seen)
+        if broken is None and slowest is not None and most is None and slowest[0] > (result.bound or 0):
+            broken = f"an execution{_kind_of(seen, slowest)} takes {slowest[0]} cycles, from cycle {slowest[1]} of a run"
         if broken is not None or doubt is not None:
             text = "; ".join(it for it in (why, broken, result.text) if it)
             return replace(result, verdict=Verdict.UNKNOWN, text=text)

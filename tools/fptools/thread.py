@@ -41,15 +41,37 @@ class Code:
 
     @cached_property
     def _led_to(self) -> set[int]:
-        return {word.target for word in self.placed if word.is_code and word.target is not None}
+        """The addresses to which jumps lead, also those by registers with known numbers, and those that words write into
+        mtvec: control comes there from elsewhere than the word before."""
+        found = {word.target for word in self.placed if word.is_code and word.target is not None}
+        while True:
+            numbers = (self._number(word, found) for word in self.placed)
+            more = {at for at in numbers if at is not None}
+            if more <= found:
+                return found
+            found |= more
+
+    def _number(self, word: Word, led_to: Collection[int]) -> int | None:
+        """The address that a JALR jumps to, or that a word writes into mtvec, as the code before it has it."""
+        if word.pc in led_to:
+            return None
+        if word.opcode == OPCODE_JALR:
+            base = self._value_at(word.pc, word.rs1, led_to)
+            return None if base is None else (base + word.immediate) % 2**32 & ~1
+        is_set = word.writes_mtvec and word.funct3 == CSRRW
+        value = self._value_at(word.pc, word.rs1, led_to) if is_set else None
+        return None if value is None else value & ~3
 
     def value_at(self, pc: int, register: int) -> int | None:
         """The number that the straight code right before a word gives a register, where it is lui, auipc and addi."""
+        return self._value_at(pc, register, self._led_to)
+
+    def _value_at(self, pc: int, register: int, led_to: Collection[int]) -> int | None:
         if register == 0:
             return 0
         added = 0
         for step in range(1, MOST_BEFORE):
-            if pc - 4 * (step - 1) in self._led_to and step > 1:
+            if pc - 4 * (step - 1) in led_to and step > 1:
                 return None
             word = self.word(pc - 4 * step)
             if word.flow is not Flow.NEXT:
@@ -85,17 +107,13 @@ class Code:
 
     def jump_target(self, word: Word) -> int | None:
         """Where a JALR leads, if the straight code before it gives its register a number."""
-        if word.opcode != OPCODE_JALR:
-            return None
-        base = self.value_at(word.pc, word.rs1)
-        return None if base is None else (base + word.immediate) % 2**32 & ~1
+        return self._number(word, self._led_to) if word.opcode == OPCODE_JALR else None
 
     def new_mtvec(self, word: Word) -> int | None:
         """The address that a write of mtvec sets, if it is a number by the straight code before it."""
         if word.funct3 == CSRRWI:
             return word.rs1 & ~3
-        value = self.value_at(word.pc, word.rs1) if word.funct3 == CSRRW else None
-        return None if value is None else value & ~3
+        return self._number(word, self._led_to) if word.funct3 == CSRRW else None
 
 
 @dataclass

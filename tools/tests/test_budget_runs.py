@@ -7,7 +7,7 @@ from pathlib import Path
 
 import pytest
 from conftest import TOOLS, TOP, Tool
-from modelled import program
+from modelled import make, program
 
 HOLDS = TOOLS / "tests/data/holds"
 OWNERS = ["T0", "T1", "T2", "T3", "T4", "T5", "T6"]
@@ -65,6 +65,54 @@ def test_traps_that_come_back(tool: Tool, folder: Path, name: str, most: int) ->
     assert status == 1
     assert text.startswith("OVER     T0 it: an execution with a trap takes ")
     assert f" of {most} cycles, from cycle " in text
+
+
+def test_a_run_above_a_bound_without_a_budget(tool: Tool, folder: Path) -> None:
+    """What an assumption leaves out breaks the bound in a run."""
+    case = Case(tool, folder, "emulates")
+    words = ("--src", HOLDS, "--flexpret", case.flexpret, "--assume", "no traps", "--runs", 9000)
+    section = ("--thread", 0, "--from-label", "work_begin", "--to-label", "work_end")
+    ran = tool("fp_budget", case.elf, "--setup", case.setup, *section, *words)
+    assert ran.returncode == 2
+    assert ran.stdout.startswith("UNKNOWN  T0 work_begin to work_end: an execution with a trap takes ")
+
+
+JUMPS = """
+        la   x1, hand
+        csrw mtvec, x1
+        li   x8, 0x40000000
+begin:  la   x7, back
+        lw   x5, 0(x8)
+        lw   x6, 1(x8)
+back:   addi x6, x6, 1
+end:    j    begin
+{handler}
+stop:   j    stop
+"""
+LATER = "hand:   li   x9, 300\nz:      addi x9, x9, -1\n        bnez x9, z\n"
+
+
+@pytest.mark.parametrize(
+    "handler",
+    [
+        "        la   x7, stop\nhand:   jr   x7",
+        f"        la   x7, stop\njump:   jr   x7\n{LATER}        la   x7, back\n        j    jump",
+        f"        la   x7, stop\njump:   jr   x7\n{LATER}        la   x2, jump\n        la   x7, back\n        jr   x2",
+    ],
+)  # fmt: skip
+def test_a_jump_that_is_reached_from_elsewhere_than_the_words_before(
+    tool: Tool, folder: Path, handler: str
+) -> None:
+    """By a trap, a jump, or a jump by a register: these words don't give its register its number."""
+    it = make(folder, JUMPS.format(handler=handler), 0)
+    budgets = folder / "budgets.toml"
+    start, end = it.labels["begin"], it.labels["end"]
+    budgets.write_text(
+        f'[[budget]]\nname = "it"\nthread = 0\nfrom = {start}\nto = {end}\ncycles = 4000\nassume = ["moved work"]\n'
+    )
+    ran = tool("fp_budget", it.setup, budgets, "--flexpret", program(folder))
+    assert ran.returncode == 2
+    assert "jumps to an address that isn't known here: no bound counts a trap handler" in ran.stdout
 
 
 def test_two_loops_with_one_head(tool: Tool, folder: Path) -> None:
