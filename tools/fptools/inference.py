@@ -172,15 +172,32 @@ class _Visit:
     _values: dict[tuple[int, State | None], Values] = field(default_factory=dict)
 
     def stated(self, exits: Collection[int]) -> list[tuple[Section, StatedLoop]]:
-        unseen = {
-            it.start: self._unseen(it, exits if it is self.parts[0] else ()) for it in self.parts
-        }
+        unseen = self._all_unseen(exits)
         found = []
         for part in self.parts:
             calls = [] if any(unseen.values()) else list(self._calls_of(part))
             found += [
                 (part, self._stated(part, loop, unseen[part.start], calls)) for loop in part.loops
             ]
+        return found
+
+    def _all_unseen(self, exits: Collection[int]) -> dict[int, str]:
+        """How each part, or what it calls, is left for code that isn't looked at. That code may
+        come back anywhere, also behind another word of a caller than the call."""
+        found = {
+            it.start: self._unseen(it, exits if it is self.parts[0] else ()) for it in self.parts
+        }
+        callers: dict[int, list[int]] = {}
+        for part in self.parts:
+            for callee in part.callees:
+                callers.setdefault(callee, []).append(part.start)
+        ahead = [start for start, why in found.items() if why]
+        while ahead:
+            callee = ahead.pop()
+            for caller in callers.get(callee, ()):
+                if not found[caller]:
+                    found[caller] = found[callee]
+                    ahead.append(caller)
         return found
 
     def _unseen(self, part: Section, exits: Collection[int]) -> str:

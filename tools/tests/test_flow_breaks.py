@@ -6,7 +6,8 @@ from __future__ import annotations
 from pathlib import Path
 
 import pytest
-from flow_build import GCC, HEAD, LD, bounds, built, stated
+from conftest import TOP
+from flow_build import GCC, HEAD, LD, bounds, built, run, stated
 from fptools.inference import StatedLoop
 
 CALLED = """NI_CALLEE
@@ -190,3 +191,76 @@ void main0(void) { FP_PORT = f(9, 3); FP_PORT = f(0, 1); }
 """
     elf = built(tmp_path, [HEAD + text], ["-Os", "-msave-restore"])
     assert all(it.bound is None for it in stated(elf)["f"])
+
+
+COMES_BACK = """#include "flexpret.h"
+        .globl main0
+        .type main0, @function
+main0:  mv s1, ra
+        li a0, 40
+        FP_LOOP(k, 2)
+        li a5, 0
+head:   jal ra, part
+        FP_ROUND(k)
+        addi a5, a5, 1
+latch:  addi a0, a0, -1
+        bnez a0, head
+        mv ra, s1
+        ret
+        .size main0, .-main0
+        .type part, @function
+part:   li t0, 38
+        bgtu a0, t0, 1f
+        LEAVES
+1:      ret
+        .size part, .-part
+"""
+
+
+def of_assembler(folder: Path, text: str) -> StatedLoop:
+    """The one loop of main0 in a file .S."""
+    source, made = folder / "t.S", folder / "t.o"
+    source.write_text(text)
+    run(*GCC, "-g", "-I", TOP / "examples/c", "-c", "-o", made, source)
+    run(*LD, "-e", "main0", "-Ttext", "0", "-o", folder / "a.elf", made)
+    (loop,) = stated(folder / "a.elf")["main0"]
+    return loop
+
+
+@pytest.mark.parametrize(
+    ("leaves", "why"),
+    [
+        ("j latch", "it isn't known what comes behind"),
+        ("addi ra, ra, 4", "it isn't certain that"),
+        ("jr t0", "it isn't known what comes behind"),
+    ],
+)
+def test_a_call_that_comes_back_elsewhere(tmp_path: Path, leaves: str, why: str) -> None:
+    """Rounds pass by FP_ROUND(k), though each path of main0 passes it."""
+    loop = of_assembler(tmp_path, COMES_BACK.replace("LEAVES", leaves))
+    assert loop.bound is None and why in loop.doubt
+
+
+@pytest.mark.parametrize("is_deleted", [True, False])
+def test_an_instruction_that_the_linker_deletes(tmp_path: Path, is_deleted: bool) -> None:
+    """Without the instruction the mark would be at the head, which each round passes."""
+    first = "lui a1, %hi(main0)" if is_deleted else "nop"
+    text = f"""#include "flexpret.h"
+        .globl main0
+        .type main0, @function
+main0:  li a0, 40
+        FP_LOOP(k, 1)
+        li t3, 3
+        FP_ROUND(k)
+        {first}
+head:   addi a1, a1, 1
+        addi a0, a0, -1
+        mv t5, a0
+        bnez t5, head
+        ret
+        .size main0, .-main0
+"""
+    loop = of_assembler(tmp_path, text)
+    assert loop.bound is None
+    why = "the linker deleted the instruction behind a mark of t.S:"
+    assert (why if is_deleted else "no FP_ROUND is in the loop") in loop.doubt
