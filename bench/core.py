@@ -101,7 +101,7 @@ class Pair:
 
     def ask(self, words: Sequence[str], folder: Path) -> str:
         """What the program writes, also if it refuses."""
-        call = [self.program, *words]
+        call = [str(self.program), *words]
         return subprocess.run(call, cwd=folder, capture_output=True, text=True, check=False).stdout
 
 

@@ -55,7 +55,7 @@ def make(folder: Path, most: int) -> None:
     shutil.copy(program, folder / "flexpret")
     for file in (*HERE.glob("*.sh"), HERE / "slack.gp", HERE.parent / "sum.fpx"):
         shutil.copy(file, folder)
-    words = [program, "asm", HERE / "period.s"]
+    words = [str(program), "asm", str(HERE / "period.s")]
     (folder / "period.fpx").write_bytes(subprocess.run(words, stdout=subprocess.PIPE, check=True).stdout)
     frames = ["".join(frame) for frame in product("ST", repeat=8) if "T" in frame]
     with (folder / "jobs.tsv").open("w", encoding="ascii") as jobs:

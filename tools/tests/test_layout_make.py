@@ -149,7 +149,7 @@ def test_marks_that_cross_a_loop_stop_the_build(folder: Path) -> None:
     )
     ran = built(folder)
     assert ran.returncode != 0 and "section inner_begin:inner_end crosses a loop" in ran.stderr
-    assert "t0_own.c:20: section" in ran.stderr and not (folder / "t0_own.laid.s").exists()
+    assert "t0_own.c:23: section" in ran.stderr and not (folder / "t0_own.laid.s").exists()
 
 
 def test_the_compilers_order_can_be_kept(folder: Path) -> None:

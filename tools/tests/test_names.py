@@ -141,7 +141,7 @@ def test_the_json_document_and_the_junit_file(named: Named) -> None:
         (("x.toml", "y.toml", "--function", "f"), "go with --setup"),
         (("x.elf", "--setup", "x.toml", "--function", "f"), "--setup needs --thread"),
         (("x.elf", "--setup", "x.toml", "--thread", "8", "--function", "f"), "invalid choice: 8"),
-        (("x.elf", "--setup", "x.toml", "--thread", "0"), "--setup needs --function, or --from-label"),
+        (("x.elf", "--setup", "x.toml", "--thread", "0"), "--setup needs --period, --function, or --from-label"),
         (("x.elf", "--setup", "x.toml", "--thread", "0", "--from-label", "a"), "go together"),
         (
             ("x.elf", "y.toml", "--setup", "x.toml", "--thread", "0", "--function", "f"),

@@ -125,9 +125,9 @@ def test_a_wait_in_a_function(tool: Tool, tmp_path: Path, body: str) -> None:
 
 def test_copies_of_a_wait_that_the_compiler_makes(tool: Tool, tmp_path: Path) -> None:
     """They are one behind the other, of one source line."""
-    loop = "for (int k = 0; k < 3; k++) { FP_ROUND(k); if (k == 1) FP_PORT = work(7);\n next += P;\n fp_wait_until(next); }"
-    begin = "void main0(void)\n{\n uint64_t next = fp_get_time();\n for (;;) {\n FP_LOOP(k, 3);\n"
-    body = f"{begin}#pragma GCC unroll 3\n{loop} }}\n}}\n"
+    loop = "for (int k = 0; k < 3; k++) { if (k == 1) FP_PORT = work(7);\n next += P;\n fp_wait_until(next); }"
+    begin = "void main0(void)\n{\n uint64_t next = fp_get_time();\n for (;;) {\n"
+    body = begin + "#pragma GCC unroll 3\n" + loop + " }\n}\n"
     status, text = Built(tool, tmp_path, body).period()
     assert status == 0 and "; assumes no trap; the longest of" in text, text
 
@@ -158,21 +158,21 @@ def test_unknown(tool: Tool, tmp_path: Path, body: str, why: str) -> None:
 def test_a_fault_that_resumes_in_the_loop(tool: Tool, tmp_path: Path) -> None:
     """The handler recovers and jumps to the loop's head: the period with it is longer than the
     bound."""
-    source = f"""void on_late(void);
-__attribute__((noinline)) void recover(void) {{ table[0] = work(table[1]); }}
+    source = """void on_late(void);
+__attribute__((noinline)) void recover(void) { table[0] = work(table[1]); }
 void main0(void)
-{{
+{
     fp_write_csr(mtvec, on_late);
     uint64_t next = fp_get_time();
-    for (;;) {{
+    for (;;) {
         FP_MARK(resume);
         next += P;
         fp_wait_until(next);
         uint32_t x = FP_PORT;
         if (x & 16) x += *(volatile uint32_t *)(uintptr_t)(0x40000000 + x);
         FP_PORT = work(x & 3);
-    }}
-}}
+    }
+}
 """
     more = '.section .text.on_late,"ax"\n.globl on_late\n.type on_late, @function\non_late: call recover\nj resume\n.size on_late, .-on_late\n'
     status, text = Built(tool, tmp_path, source, more=more).period()
