@@ -223,7 +223,8 @@ class Unfolded:
         bodies = {ring.body for ring in self.rings}
         parts = networkx.strongly_connected_components(self.graph)
         cycles = [frozenset(it) for it in parts if len(it) > 1]
-        return [it for it in self.waits if any(it in part and part not in bodies for part in cycles)]
+        tangled = set().union(*(it for it in cycles if it not in bodies))
+        return [it for it in self.waits if it in tangled]
 
     def around(self, place: Place) -> list[Ring]:
         """The loops that a place lies in, the outermost first."""
