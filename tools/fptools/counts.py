@@ -56,6 +56,8 @@ def count_of(
     `entries`."""
     if not loop.is_natural or not loop.body or loop.head in entries:
         return None
+    if loop.head == section.start and values.is_entered_within(loop.head, loop.body):
+        return None  # a visit of the section may begin after some rounds
     state = values.entering(loop.head, loop.body)
     inside = [it for it in section.loops if it.head in loop.body and it.head != loop.head]
     if state is None or not all(it.is_natural for it in inside):

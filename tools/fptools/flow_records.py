@@ -129,6 +129,12 @@ def _strings(data: bytes, at: int, count: int) -> tuple[list[str], int]:
     return found, at
 
 
+def _have_lines(program: Program) -> bool:
+    """Whether all functions were compiled with -g."""
+    starts = {it.start for it in program.functions}
+    return program.has_lines and all(program.line_of(it) is not None for it in starts)
+
+
 def fault_of_number(most: int) -> str:
     """Why an n can't be claimed; empty where it can."""
     if most == 0:
@@ -163,8 +169,8 @@ class Marks:
         if astray is not None:
             where = f"a mark of {astray.claim} is at {astray.at:#x}, where no code is"
             found.fault = f"{SECTION} of {program.path} is damaged: {where}; {BUILD_AGAIN}"
-        elif marks and not program.has_local_symbols and not program.has_lines:
-            why = "has neither local symbols nor lines, so folded functions aren't known"
+        elif marks and not program.has_local_symbols and not _have_lines(program):
+            why = "has neither local symbols nor all lines, so folded functions aren't known"
             found.fault = f"{program.path} {why}: compile with -g, and don't strip it"
         else:
             found._take(program, marks, units)

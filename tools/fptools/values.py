@@ -186,6 +186,16 @@ class Values:
                     found = state if found is None else joined(head, found, state)
         return found
 
+    def is_entered_within(self, head: int, body: Collection[int]) -> bool:
+        """Whether code outside of a loop leads to a word of it that isn't its head."""
+        own = set(body)
+        for pc in own - {head}:
+            if not self.jumps.get(pc, own) <= own:
+                return True
+            if pc - 4 in self.before.keys() - own and pc in self._next(self._word(pc - 4)):
+                return True
+        return False
+
     def clobbered(self, function: int) -> frozenset[int]:
         """The registers that a called function, and what it calls, may change."""
         if function not in self._clobbered:

@@ -177,8 +177,8 @@ def test_a_stripped_executable_has_no_claims(tmp_path: Path) -> None:
     elf = built(tmp_path, [f_of(COUNTED_BY_DATA)], ["-Os"])
     for option, why in (
         ("--strip-symbol=f", "is in no function with a size: strip removes its symbol"),
-        ("--discard-all", "has neither local symbols nor lines"),
-        ("--strip-all", "has neither local symbols nor lines"),
+        ("--discard-all", "has neither local symbols nor all lines"),
+        ("--strip-all", "has neither local symbols nor all lines"),
     ):
         out = tmp_path / f"{option.strip('-')}.elf"
         subprocess.run(["riscv64-unknown-elf-objcopy", option, elf, out], check=True)

@@ -7,8 +7,11 @@ from pathlib import Path
 
 import pytest
 from conftest import TOP
-from flow_build import GCC, HEAD, LD, bounds, built, run, stated
-from fptools.inference import StatedLoop
+from flow_build import GCC, HEAD, LD, LINK, bounds, built, run, stated
+from fptools.elf import Program
+from fptools.inference import Inference, StatedLoop
+from fptools.loop_marks import with_records
+from fptools.section import walk
 
 CALLED = """NI_CALLEE
 static volatile u32 v = 3, total = 40;
@@ -263,3 +266,66 @@ head:   addi a1, a1, 1
     assert loop.bound is None
     why = "the linker deleted the instruction behind a mark of "
     assert (why if is_deleted else "no FP_ROUND is in the loop") in loop.doubt
+
+
+def test_a_visit_that_begins_in_a_later_round(tmp_path: Path) -> None:
+    """Code before the section leads into its loop, with another number of the counter."""
+    text = """	.text
+	.globl main0
+	.type main0, @function
+main0:
+	li a5, 0
+	li a6, 4
+	beqz a4, begin
+	li a5, -100
+	j middle
+begin:
+	addi a5, a5, 1
+middle:
+	nop
+	beq a5, a6, end
+	j begin
+end:
+	nop
+	ret
+	.size main0, .-main0
+"""
+    program = Program(built(tmp_path, [text]))
+    begin, end = program.address("begin"), program.address("end")
+    ((_, loop),) = Inference(program).state([walk(program.words, begin, end)])
+    assert loop.bound is None
+
+
+def test_folded_functions_of_which_one_has_lines(tmp_path: Path) -> None:
+    """The linker folds a static function without -g into another one, and drops its symbol."""
+    text = """u32 NAME(u32 n)
+{
+    u32 s = 0;
+    FP_LOOP(i, MOST);
+    for (u32 i = 0; i < n; i++) { FP_ROUND(i); s += a[i]; }
+    return s;
+}
+"""
+    extern = HEAD.replace("static volatile u32 a[64];", "extern volatile u32 a[64];")
+    one = extern + text.replace("NAME", "one").replace("MOST", "3")
+    other = extern + "APART " + text.replace("NAME", "two").replace("MOST", "30")
+    first = "volatile u32 a[64]; u32 one(u32), g(u32); void main0(void) { for (;;) one(g(30)); }\n"
+    objects = []
+    for name, unit, lines in (
+        ("main", extern + first, "-g"), ("one", one, "-g"), ("other", other + CALLS_TWO, "-g0"),
+    ):  # fmt: skip
+        source, compiled = tmp_path / f"{name}.c", tmp_path / f"{name}.s"
+        source.write_text(unit)
+        options = ["-O2", "-ffreestanding", "-ffunction-sections", "-I", TOP / "examples/c"]
+        run(*GCC, *options, lines, "-S", "-o", compiled, source)
+        compiled.write_text(with_records(compiled.read_text()))
+        objects.append(tmp_path / f"{name}.o")
+        run(*GCC, "-c", "-o", objects[-1], compiled)
+    (tmp_path / "link.ld").write_text(LINK)
+    fold = ["ld.lld", "-n", "--icf=all", "--discard-all", "-e", "main0"]
+    run(*fold, "-T", tmp_path / "link.ld", "-o", tmp_path / "a.elf", *objects)
+    (loop,) = stated(tmp_path / "a.elf")["one"]
+    assert loop.bound is None and "folded functions aren't known" in loop.doubt
+
+
+CALLS_TWO = "u32 g(u32 n) { return two(n) + 1; }\n"
