@@ -315,6 +315,6 @@ def test_each_fault_is_in_the_core_and_has_its_example() -> None:
     text = faulty((TOP / "rtl/flexpret.sv").read_text())
     assert len(FAULTS) >= 10
     assert all(f"(fault == {number})" in text for number in range(1, len(FAULTS) + 1))
-    shown = (TOP / "docs/FLEXPRET.md").read_text()
+    shown = (TOP / "rtl/README.md").read_text()
     for fault in FAULTS:
         assert f"| [{fault.example}](../examples/{fault.example}.toml) | {fault.cycles} |" in shown
