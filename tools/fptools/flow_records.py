@@ -34,8 +34,6 @@ MOST_ROUNDS = 1_048_576
 
 HEADER = struct.Struct("<7I")
 ROUND, ONLY_FALL = 0x1, 0x100
-DELETED = (2**32 - 4, 2**32 - 4 + ROUND)
-"""The kinds of marks in assembler whose next instruction a linker deleted, of 4 bytes."""
 BUILD_AGAIN = "build it again, from its sources on"
 
 
@@ -103,11 +101,6 @@ def read_records(data: bytes) -> list[Mark]:
             (name, file, unit_name), end = _strings(data, at + HEADER.size, 3)
         except (struct.error, ValueError):
             raise RecordError(f"the record at byte {at:#x} isn't whole") from None
-        if kind in DELETED and name:
-            raise RecordError(
-                f"the linker deleted the instruction behind a mark of {file}:{line} {name}: "
-                "write the mark before another one"
-            )
         if kind & ~(ROUND | ONLY_FALL) or address % 4 or not name:
             raise RecordError(f"the record at byte {at:#x} is none of a mark")
         claim = Claim(file, line, name, most, number, unit, unit_name)

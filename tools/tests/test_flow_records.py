@@ -57,10 +57,11 @@ def test_a_record() -> None:
         record(9),
         record(8, kind=2),
         record(8, kind=0x201),
+        record(8, kind=2**32 - 4),
         record(8).replace(b"tap", b""),
         record(8).replace(b"tap", b"\xff\xff\xff"),
     ],
-    ids=["end", "more", "address", "kind", "edges", "name", "text"],
+    ids=["end", "more", "address", "kind", "edges", "below 0", "name", "text"],
 )
 def test_a_damaged_section_makes_all_claims_unknown(data: bytes) -> None:
     with pytest.raises(RecordError):
