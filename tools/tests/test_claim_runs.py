@@ -192,6 +192,19 @@ void main0(void)
         assert (ran.returncode, says in ran.stdout) == (status, True), ran.stdout
 
 
+def test_claims_of_units_of_one_name_are_told(case: Case) -> None:
+    """They can't be told apart, so no run is compared with them."""
+    one, other = LOOP, LOOP.replace("main0", "other").replace("step_", "other_")
+    case.build([one, other], "-Os", is_direct=True)
+    elf = case.folder / "own.elf"
+    status, text = case.visits("[[0, 9]]", 4000)
+    assert (status, "isn't compared" in text) == (1, False)
+    elf.write_bytes(elf.read_bytes().replace(b"\x001:x.c", b"\x000:x.c"))
+    status, text = case.visits("[[0, 9]]", 4000)
+    assert status == 0
+    assert "x.c:10 tap isn't compared with the run: 2 units are named 0:x.c" in text
+
+
 def test_a_report_has_the_claims(case: Case) -> None:
     case.build([LOOP], "-O2", "-g")
     budgets, page = case.folder / "budgets.toml", case.folder / "page.html"
