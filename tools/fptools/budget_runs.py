@@ -4,9 +4,10 @@ from __future__ import annotations
 from dataclasses import dataclass, replace
 from typing import Mapping, Sequence
 
-from fptools.budget_files import Result, Verdict
+from fptools.budget_files import Budget, Result, Verdict
 from fptools.claim_runs import marks_for
 from fptools.elf import Program, ProgramError
+from fptools.inference import UNSEEN
 from fptools.observed import Kind, Observation, doubt_of, question_of, run_and_observe
 from fptools.observed_text import Text
 from fptools.period_runs import PeriodRuns
@@ -95,7 +96,7 @@ class Runs:
         slowest, most, doubt = seen.slowest, result.budget.cycles, doubt_of(seen)
         why = Text(self.program).doubt(observation, doubt) if doubt else ""
         result = replace(result, executions=seen.count, longest=slowest[0] if slowest else None)
-        claims = self._broken_claims(observation, seen)
+        claims = self._broken_claims(result.budget, observation, seen.watched)
         if claims:
             text = f"{'; '.join(claims)}; {result.text}"
             return replace(result, verdict=Verdict.OVER, text=text, is_broken=True)
@@ -115,20 +116,31 @@ class Runs:
             result, text=f"{result.text}; the longest of {seen.count} executions takes {slowest[0]}"
         )
 
-    def _broken_claims(self, observation: Observation, seen: Executions) -> list[str]:
-        """The claims with marks in the section, or in a function, that a run broke."""
+    def _broken_claims(
+        self, budget: Budget, observation: Observation, watched: Watched
+    ) -> list[str]:
+        """The claims that a run broke with marks in the section and in functions that it calls; all,
+        where code that isn't known belongs to it."""
         marks = observation.question.marks
-        parts = ((seen.watched.start, seen.watched.end), *seen.watched.routines)
+        parts = ((watched.start, watched.end), *watched.routines)
+        is_of_all = self.is_of_functions or self._has_unknown(budget, watched)
         own = {
             mark.claim
             for mark in (marks.all if marks else [])
-            if self.is_of_functions or any(start <= mark.at < end for start, end in parts)
+            if is_of_all or any(start <= mark.at < end for start, end in parts)
         }
         return [
             f"{it}: the run broke the claim in cycle {it.broken_at}"
             for it in observation.claims
             if it.is_broken and it.claim in own
         ]
+
+    def _has_unknown(self, budget: Budget, watched: Watched) -> bool:
+        """Whether a section, or what it calls, is left for code that isn't looked at."""
+        functions = self.program.functions if budget.calls else []
+        parts = walk_all(self.image, watched.start, watched.end, functions)
+        ways = (way for part in parts for way in part.ways_out if way.exit in UNSEEN)
+        return any(way.to is None or way.to not in watched.exits for way in ways)
 
     def _broken(self, observation: Observation, seen: Executions) -> str | None:
         """Which table of the section's loops a run broke, or that it broke the bound."""

@@ -1,11 +1,11 @@
 """How often a loop goes back at most that counts, read off the machine code: no mark and no source
 is believed.
 
-A test is a branch that each round passes once, and that leaves the loop on one side. It compares a
-counter with a limit. Each word that changes the counter adds a number to it, and each round passes
-that word once; the limit is the same at each test, or moves in this way too. Where both are known
-on entry, the test is computed with 32 bits until it leaves. Where only their distance is known,
-they have to meet."""
+A test is a branch that leaves the loop on one side. It compares a counter with a limit. All ways of
+a round to the test add the same number to the counter, and so do all whole rounds; the limit is the
+same at each test, or moves in this way too. Where both are known on entry, the test is computed with
+32 bits until it leaves. Where only their distance is known, they have to meet. Each round passes one
+of some tests that leave the loop in the same round."""
 from __future__ import annotations
 
 from dataclasses import dataclass
@@ -13,7 +13,7 @@ from math import gcd
 from typing import Collection, Iterator, Mapping
 
 from fptools.flow_records import MOST_ROUNDS
-from fptools.section import Loop, Section, dominates, walk
+from fptools.section import Loop, Section, walk
 from fptools.values import State, Value, Values, adds, jumps_of, signed, unknown, written_by
 from fptools.words import Flow, Word
 
@@ -42,6 +42,14 @@ class Side:
     step: int
 
 
+@dataclass(frozen=True)
+class Sums:
+    """What a round has added to a register before each word of a loop, and as a whole."""
+
+    before: Mapping[int, int]
+    step: int
+
+
 def takes(funct3: int, one: int, other: int) -> bool:
     """Whether a branch is taken, by the numbers that it compares."""
     a, b = one % 2**32, other % 2**32
@@ -62,47 +70,46 @@ def count_of(
     inside = [it for it in section.loops if it.head in loop.body and it.head != loop.head]
     if state is None or not all(it.is_natural for it in inside):
         return None
-    tests = _Tests(section, loop, values, state, frozenset(pc for it in inside for pc in it.body))
+    tests = _Tests(section, loop, values, state)
     found = {test.pc: backs for test in tests.all() if (backs := tests.backs(test)) is not None}
-    if not found:
-        return None
-    return Count(min(found.values()), loop.exits <= found.keys())
+    for most in sorted(set(found.values())):
+        if tests.are_passed({pc for pc, backs in found.items() if backs == most}):
+            return Count(most, all(found.get(pc, -1) >= most for pc in loop.exits))
+    return None
 
 
 class _Tests:
     """The tests of a loop, and what its rounds add to registers."""
 
-    def __init__(
-        self, section: Section, loop: Loop, values: Values, state: State, within: frozenset[int]
-    ) -> None:
-        self.section, self.loop, self.values, self.state, self.within = (
-            section,
-            loop,
-            values,
-            state,
-            within,
-        )
+    def __init__(self, section: Section, loop: Loop, values: Values, state: State) -> None:
+        self.section, self.loop, self.values, self.state = section, loop, values, state
+        self._sums: dict[int, Sums | None] = {}
         self.words = [section.reached[pc] for pc in sorted(loop.body)]
         calls = [it.target for it in self.words if it.flow is Flow.CALL and it.target is not None]
         self.gone: frozenset[int] = frozenset().union(*map(values.clobbered, calls)) - {0}
 
     def all(self) -> Iterator[Word]:
-        """The branches that each round passes once, and that leave the loop on one side."""
+        """The branches that leave the loop on one side."""
         for word in self.words:
-            if (
-                word.flow is Flow.BRANCH
-                and word.pc in self.values.before
-                and self._is_once(word.pc)
-            ):
+            if word.flow is Flow.BRANCH and word.pc in self.values.before:
                 sides = {word.target in self.loop.body, word.next in self.loop.body}
                 if len(sides) == 2 and word.target != word.next:
                     yield word
 
-    def _is_once(self, pc: int) -> bool:
-        """Whether each round passes a word, and only once."""
-        return pc not in self.within and all(
-            dominates(self.section, pc, back) for back in self.loop.backs
-        )
+    def are_passed(self, some: Collection[int]) -> bool:
+        """Whether each round passes one of some words."""
+        seen: set[int] = set()
+        ahead = [self.loop.head]
+        while ahead:
+            pc = ahead.pop()
+            if pc in seen or pc in some:
+                continue
+            seen.add(pc)
+            onward = [to for to in self.section.graph[pc] if to in self.loop.body]
+            if self.loop.head in onward:
+                return False
+            ahead += onward
+        return True
 
     def backs(self, test: Word) -> int | None:
         """How often a test stays in the loop before it leaves."""
@@ -124,17 +131,40 @@ class _Tests:
         here = self.values.before[test.pc][register]
         if here.origin is None:
             return Side(here, 0)  # the same number at each test
-        changes = [it for it in self.words if written_by(it) == register]
+        sums = self._sums_of(register)
+        if sums is None:
+            return None
+        first = self.state[register]
+        return Side(Value(first.origin, signed(first.offset + sums.before[test.pc])), sums.step)
+
+    def _sums_of(self, register: int) -> Sums | None:
+        if register not in self._sums:
+            self._sums[register] = self._summed(register)
+        return self._sums[register]
+
+    def _summed(self, register: int) -> Sums | None:
+        """What a round adds to a register; None where its ways differ, or do more than add."""
         if register in self.gone:
             return None
-        if not all(adds(it) and it.rs1 == register and self._is_once(it.pc) for it in changes):
-            return None
-        # Words that each round passes once are in the same order in all of them: before the test,
-        # or behind it.
-        before = sum(it.immediate for it in changes if dominates(self.section, it.pc, test.pc))
-        first = self.state[register]
-        step = sum(it.immediate for it in changes)
-        return Side(Value(first.origin, signed(first.offset + before)), step)
+        before = {self.loop.head: 0}
+        steps: set[int] = set()
+        ahead = [self.loop.head]
+        while ahead:
+            word = self.section.reached[ahead.pop()]
+            behind = before[word.pc]
+            if written_by(word) == register:
+                if not adds(word) or word.rs1 != register:
+                    return None
+                behind += word.immediate
+            for to in self.section.graph[word.pc]:
+                if to == self.loop.head:
+                    steps.add(behind)
+                elif to in self.loop.body and to not in before:
+                    before[to] = behind
+                    ahead.append(to)
+                elif to in self.loop.body and before[to] != behind:
+                    return None
+        return Sums(before, steps.pop()) if len(steps) == 1 else None
 
 
 def _until_they_meet(funct3: int, stays_if_taken: bool, one: Side, other: Side) -> int | None:

@@ -64,10 +64,15 @@ class Claim:
 
     def may_be(self, other: Claim) -> bool:
         """Whether both may be of one statement: an inline function has a claim in each unit that
-        compiles it, and a template in each of its functions."""
+        compiles it, and a template in each of its functions. Two units may have other paths to
+        one header."""
         is_elsewhere = (self.unit, self.unit_name) != (other.unit, other.unit_name)
-        is_alike = (self.file, self.line, self.name) == (other.file, other.line, other.name)
-        return self == other or is_elsewhere and is_alike
+        return self == other or is_elsewhere and self._place == other._place
+
+    @property
+    def _place(self) -> tuple[str, int, str]:
+        """The file without its folders, the line, and the name."""
+        return self.file.rpartition("/")[2], self.line, self.name
 
 
 @dataclass(frozen=True)

@@ -11,13 +11,13 @@ from functools import cached_property
 from typing import Collection, Iterator, Mapping, Sequence
 
 from fptools.counts import Count, called_with, count_of
-from fptools.elf import Program
+from fptools.elf import Function, Program
 from fptools.flow_bound import facts_of, most_backs
 from fptools.flow_graph import LoopFlow, flow_of
 from fptools.flow_reasons import why_unbounded
 from fptools.flow_records import MOST_ROUNDS, Claim, Mark, Marks
 from fptools.returns import wrong_return
-from fptools.section import Exit, Loop, Section, WayOut
+from fptools.section import Exit, Loop, Section, WayOut, walk
 from fptools.values import State, Values, clobbered_by, jumps_of
 from fptools.words import Flow, Word
 
@@ -111,6 +111,7 @@ class Inference:
     program: Program
     words: Mapping[int, int] = field(default_factory=dict)
     _clobbered: dict[int, frozenset[int]] = field(default_factory=dict)
+    _certain: dict[int, bool] = field(default_factory=dict)
 
     def __post_init__(self) -> None:
         self.words = self.words or self.program.words
@@ -158,6 +159,31 @@ class Inference:
         if function not in self._clobbered:
             self._clobbered[function] = clobbered_by(self.words, function)
         return self._clobbered[function]
+
+    def is_certain(self, function: Function) -> bool:
+        """Whether control gets from a function's first word to its others as its words say: by no
+        jump to an address in a register, and each call comes back right behind it."""
+        if function.start not in self._certain:
+            self._certain[function.start] = self._comes_back(function)
+        return self._certain[function.start]
+
+    def _comes_back(self, function: Function) -> bool:
+        functions = {it.start: it for it in self.program.functions}
+        seen: set[int] = set()
+        ahead = [function.start]
+        while ahead:
+            start = ahead.pop()
+            if start in seen:
+                continue
+            seen.add(start)
+            part = walk(self.words, start, functions[start].end, functions, is_function=True)
+            unseen = UNSEEN if start != function.start else (Exit.CALL, Exit.INDIRECT)
+            if any(way.exit in unseen for way in part.ways_out) or _unseen_call(part):
+                return False
+            if start != function.start and wrong_return(part, self.changed_by, self.words):
+                return False
+            ahead += part.callees
+        return True
 
     def values_from(self, start: int, entries: Collection[int], first: State | None) -> Values:
         return Values(self.words, start, self.jumps, entries, first, self._clobbered)
@@ -220,9 +246,8 @@ class _Visit:
         for way in part.ways_out:
             if way.exit in UNSEEN and not (way.exit is Exit.ELSEWHERE and way.to in exits):
                 return f"it isn't known what comes behind {self._way(way)}"
-        for word in part.reached.values():
-            if word.flow is Flow.CALL and word.target not in part.callees:
-                return f"{self.own.where(word.pc)} is a call of code that isn't looked at"
+        if call := _unseen_call(part):
+            return f"{self.own.where(call.pc)} is a call of code that isn't looked at"
         if part.is_function and (wrong := wrong_return(part, self.own.changed_by, self.own.words)):
             return f"it isn't certain that {self.own.where(wrong.pc)} goes back to the call"
         return ""
@@ -232,10 +257,11 @@ class _Visit:
         return f"{self.own.where(way.word.pc)}{to}: {way.exit.value}"
 
     def _values_of(self, part: Section, first: State | None = None) -> Values:
-        """The values in a part: from its function's first word on, or if that may be jumped over
-        from its own one on."""
-        function = self.own.program.function_at(part.start)
-        start = part.start if function is None or self.is_entered_anywhere else function.start
+        """The values in a part: from its function's first word on; from its own one on, where it
+        isn't certain how control gets there from that."""
+        function, start = self.own.program.function_at(part.start), part.start
+        if function is not None and not self.is_entered_anywhere and function.start != start:
+            start = function.start if self.own.is_certain(function) else start
         if (start, first) not in self._values:
             entries = self.entries - ({start} if first is not None else set())
             self._values[start, first] = self.own.values_from(start, entries, first)
@@ -297,6 +323,12 @@ class _Visit:
         """That a call makes a loop go back more often than the marks allow."""
         rounds = 0 if count is None else count.backs + 1
         return f"by the call at {self.own.where(call.pc)} the code counts {rounds} rounds"
+
+
+def _unseen_call(part: Section) -> Word | None:
+    """A call of code that isn't looked at."""
+    calls = (it for it in part.reached.values() if it.flow is Flow.CALL)
+    return next((it for it in calls if it.target not in part.callees), None)
 
 
 def _largest(counts: Sequence[Count | None]) -> Count | None:

@@ -86,7 +86,6 @@ class Section:
     ways_out: list[WayOut] = field(default_factory=list)
     callees: set[int] = field(default_factory=set)
     graph: networkx.DiGraph = field(default_factory=networkx.DiGraph)
-    dominators: Dominators | None = None
 
     def holds(self, address: int) -> bool:
         return self.start <= address < self.end
@@ -144,15 +143,10 @@ def walk_all(
     return [first, *(called[head] for head in sorted(called))]
 
 
-def dominates(section: Section, above: int, below: int) -> bool:
-    """Whether each path from the section's first word to `below` passes `above`."""
-    return section.dominators is not None and section.dominators.has(above, below)
-
-
 def _loops(section: Section) -> list[Loop]:
     """The loops by their heads: targets of edges that lead backwards by address, or to a word that dominates theirs."""
     graph = section.graph
-    dominators = section.dominators = Dominators(graph, section.start)
+    dominators = Dominators(graph, section.start)
     backs: dict[int, set[int]] = defaultdict(set)
     natural: dict[int, set[int]] = defaultdict(set)
     for word, to in graph.edges:

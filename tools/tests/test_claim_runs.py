@@ -158,6 +158,53 @@ def test_a_budget_with_a_broken_claim(case: Case) -> None:
     assert json.loads(ran.stdout)["results"][0]["verdict"] == "broken"
 
 
+def test_a_broken_claim_behind_a_call_by_pointer_of_a_section(case: Case) -> None:
+    """The section has no bound, and the claim isn't in it."""
+    text = """
+APART uint32_t sum_of(uint32_t n)
+{
+    uint32_t sum = 0;
+    FP_LOOP(tap, 8);
+    for (uint32_t i = 0; i < n; i++) { FP_ROUND(tap); sum += i * n; __asm__ volatile(""); }
+    return sum;
+}
+static uint32_t (*volatile p)(uint32_t);
+void main0(void)
+{
+    p = sum_of;
+    for (;;) {
+        FP_MARK(step_begin);
+        FP_PORT = p(FP_PORT);
+        FP_MARK(step_end);
+    }
+}
+"""
+    case.build([text], "-O2", "-g")
+    broken = "BROKEN   T0 step_begin to step_end"
+    for inputs, status, says in (
+        ("[[0, 3], [2000, 9]]", 1, f"{broken}: x.c:7 tap: claimed 8, seen 9"),
+        ("[[0, 3], [2000, 8]]", 2, "UNKNOWN  T0 step_begin to step_end: "),
+    ):
+        setup = case.set_up(inputs)
+        ask = ("fp_budget", case.folder / "own.elf", "--setup", setup, "--thread", 0)
+        labels = ("--from-label", "step_begin", "--to-label", "step_end", "--runs", 6000)
+        ran = case.asking(*ask, *labels)
+        assert (ran.returncode, says in ran.stdout) == (status, True), ran.stdout
+
+
+def test_claims_of_units_of_one_name_are_told(case: Case) -> None:
+    """They can't be told apart, so no run is compared with them."""
+    one, other = LOOP, LOOP.replace("main0", "other").replace("step_", "other_")
+    case.build([one, other], "-Os", is_direct=True)
+    elf = case.folder / "own.elf"
+    status, text = case.visits("[[0, 9]]", 4000)
+    assert (status, "isn't compared" in text) == (1, False)
+    elf.write_bytes(elf.read_bytes().replace(b"\x001:x.c", b"\x000:x.c"))
+    status, text = case.visits("[[0, 9]]", 4000)
+    assert status == 0
+    assert "x.c:10 tap isn't compared with the run: 2 units are named 0:x.c" in text
+
+
 def test_a_report_has_the_claims(case: Case) -> None:
     case.build([LOOP], "-O2", "-g")
     budgets, page = case.folder / "budgets.toml", case.folder / "page.html"

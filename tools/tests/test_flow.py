@@ -177,6 +177,24 @@ def test_a_claim_of_a_header_in_two_units(tmp_path: Path) -> None:
     assert [it.bound for it in found["f"]] in ([11], [12])
 
 
+@pytest.mark.parametrize("paths", [("own.h", "own.h"), ("own.h", "in/../own.h")])
+@pytest.mark.parametrize("is_laid", [True, False])
+def test_two_paths_to_one_header(tmp_path: Path, paths: tuple[str, str], is_laid: bool) -> None:
+    """Each round of the loop in one unit passes FP_LOOP of the same statement in the other."""
+    (tmp_path / "in").mkdir()
+    (tmp_path / "own.h").write_text(
+        "u32 depth(u32);\nstatic inline u32 each(u32 n, u32 more) { u32 s = 0; FP_LOOP(i, 2); "
+        "for (u32 i = 0; i < n; i++) { FP_ROUND(i); s += a[i]; if (more) s += depth(more - 1); } return s; }\n"
+    )
+    one, other = (HEAD + f'#include "{it}"\n' for it in paths)
+    one += "void main0(void) { count = each(12, 1); }\n"
+    other += "u32 depth(u32 more) { return each(1, more); }\n"
+    for level in ("-O2", "-Os"):
+        found = stated(built(tmp_path, [one, other], [level], is_laid=is_laid))["main0"]
+        assert found and all(it.bound is None for it in found)
+        assert all("may pass the FP_LOOP of " in it.doubt for it in found)
+
+
 @pytest.mark.parametrize("linker", [[*LLD, "--icf=all"], LLD, LD], ids=" ".join)
 def test_functions_that_a_linker_folds(tmp_path: Path, linker: list[str]) -> None:
     """Two local functions of one name in two units, of the same code, with claims of 4 and of

@@ -351,6 +351,58 @@ end:
     assert loop.bound is None
 
 
+@pytest.mark.parametrize(
+    ("before", "bound"),
+    [
+        ("jal part", 9),
+        ("jal skips", None),  # it comes back a word later
+        ("jal leaves", None),  # it goes on in main0 by itself
+        ("la t1, begin\n\tjr t1", None),
+        ("jal 1f\n1:\tnop", None),  # no function with a size
+    ],
+)
+def test_a_number_that_is_jumped_over_before_a_section(
+    tmp_path: Path, before: str, bound: int | None
+) -> None:
+    """The counter begins with 90, or with 0."""
+    text = f"""	.text
+	.globl main0
+	.type main0, @function
+main0:
+	mv s1, ra
+	li a5, 0
+	{before}
+	li a5, 90
+begin:
+	li t0, 100
+head:
+	addi a5, a5, 1
+	bne a5, t0, head
+end:
+	mv ra, s1
+	ret
+	.size main0, .-main0
+	.type part, @function
+part:
+	ret
+	.size part, .-part
+	.type skips, @function
+skips:
+	addi ra, ra, 4
+	ret
+	.size skips, .-skips
+	.type leaves, @function
+leaves:
+	la t1, begin
+	jr t1
+	.size leaves, .-leaves
+"""
+    program = Program(built(tmp_path, [text]))
+    begin, end = program.address("begin"), program.address("end")
+    ((_, loop),) = Inference(program).state([walk(program.words, begin, end)])
+    assert loop.bound == bound
+
+
 def test_folded_functions_of_which_one_has_lines(tmp_path: Path) -> None:
     """The linker folds a static function without -g into another one, and drops its symbol."""
     text = """u32 NAME(u32 n)

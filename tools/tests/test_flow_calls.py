@@ -80,3 +80,65 @@ void main0(void)
     (loop,) = stated(built(tmp_path, [HEAD + text], ["-Os"]))["main0"]
     assert loop.bound in (19, 20) and not loop.is_contradicted
     assert "the code counts 10" in loop.source and "the marks state 2" in loop.source
+
+
+@pytest.mark.parametrize("level", ["-Og", "-O2", "-Os"])
+def test_the_outer_loop_of_an_insertion_sort(tmp_path: Path, level: str) -> None:
+    """A compiler makes two copies of the outer loop's end, each with its step and its test."""
+    text = """void main0(void)
+{
+    for (u32 i = 1; i < 16; i++) {
+        u32 v = a[i], j = i;
+        FP_LOOP(j, 15);
+        while (j > 0 && a[j - 1] > v) { FP_ROUND(j); a[j] = a[j - 1]; j--; }
+        a[j] = v;
+    }
+}
+"""
+    plain = HEAD.replace("static volatile u32 a[64];", "u32 a[64];")
+    found = stated(built(tmp_path, [plain + text], [level]))["main0"]
+    assert len(found) > 1 and all(it.bound is not None for it in found)
+    outer = max(found, key=lambda it: len(it.loop.body))
+    assert outer.by_code is not None and outer.by_code.is_exact and outer.bound in (14, 15)
+
+
+@pytest.mark.parametrize(
+    ("left", "right", "test", "bound"),
+    [
+        (1, 1, "bne", 9),
+        (1, 2, "bne", None),  # the ways add other numbers
+        (1, 1, "nop; #", None),  # one way has no test
+        (1, 1, "bltu", None),  # that leaves the loop in the first round, which only some rounds pass
+    ],
+)
+def test_ways_of_a_round_with_steps_and_tests_of_their_own(
+    tmp_path: Path, left: int, right: int, test: str, bound: int | None
+) -> None:
+    text = f"""	.text
+	.globl main0
+	.type main0, @function
+main0:
+	lui a3, 0x40000
+	li a5, 0
+	li a4, 10
+head:
+	lw a2, 0(a3)
+	beqz a2, right
+	addi a5, a5, {left}
+	bne a5, a4, head
+	j end
+right:
+	addi a5, a5, {right}
+	beq a5, a4, end
+	{test} a5, a4, head
+	beqz x0, head
+end:
+	ret
+	.size main0, .-main0
+"""
+    if test == "bltu":
+        text = text.replace("beq a5, a4, end", "bltu a5, a4, end")
+    if test.startswith("nop"):
+        text = text.replace("beq a5, a4, end", "nop")
+    (loop,) = stated(built(tmp_path, [text]))["main0"]
+    assert loop.bound == bound
