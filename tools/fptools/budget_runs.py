@@ -64,11 +64,15 @@ class Runs:
     def _observed(self, thread: int, watched: Sequence[Watched], results: Sequence[Result]) -> Observation:
         marks = marks_for(self.program, self.image)
         question = question_of(self.setup, thread, watched, self.image, marks)
-        if self.is_of_names:
-            facts = {(it.head, it.last): it.bound for result in results for it in result.loops}
-            question = replace(
-                question, loops=[LoopTable(*place, bound) for place, bound in sorted(facts.items())]
-            )
+        sections = (it for it in results if self.is_of_names or it.budget.period is None)
+        facts = {(it.head, it.last): it.bound for result in sections for it in result.loops}
+        made = [LoopTable(*place, bound) for place, bound in sorted(facts.items())]
+        if not self.is_of_names:
+            stated = {it.head for it in question.loops if it.bound is not None}
+            made = [it for it in made if it.head not in stated]
+            heads = {it.head for it in made}
+            made = [*(it for it in question.loops if it.head not in heads), *made]
+        question = replace(question, loops=made)
         return run_and_observe(self.flexpret, self.setup, question, self.cycles, name=self.name)
 
     def _watched(self, result: Result) -> Watched | None:
