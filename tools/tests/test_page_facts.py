@@ -1,4 +1,4 @@
-"""Statements of the pages that no table holds: each is compared with the tree, or with the model."""
+"""Statements of the pages that no table holds: each is compared with the tree or the model."""
 from __future__ import annotations
 
 import re
@@ -28,7 +28,11 @@ def test_cycle_0_is_the_first_one_even_if_nothing_is_fetched(tmp_path: Path) -> 
     assert "whether or not something is fetched in it" in text_of("FLEXPRET.md")
     setup = (TOP / "examples/sum.toml").read_text()
     first = tmp_path / "first.toml"
-    first.write_text(re.sub(r"^slots = .*$", 'slots = ["S", "T0", "S", "S", "D", "D", "D", "D"]', setup, flags=re.M))
+    first.write_text(
+        re.sub(
+            r"^slots = .*$", 'slots = ["S", "T0", "S", "S", "D", "D", "D", "D"]', setup, flags=re.M
+        )
+    )
     trace = asked("run", str(first), "--thread", "0", "--cycles", "20").splitlines()
     assert int(trace[0][:10]) == 1
 
@@ -36,12 +40,19 @@ def test_cycle_0_is_the_first_one_even_if_nothing_is_fetched(tmp_path: Path) -> 
 def test_places_have_each_spelling_and_the_counts() -> None:
     ran = subprocess.run(
         [sys.executable, "bench/places.py", "--lines", "gth", "ee"],
-        cwd=TOP, capture_output=True, text=True, check=True,
-    )  # fmt: skip
+        cwd=TOP,
+        capture_output=True,
+        text=True,
+        check=True,
+    )
     for place in (
-        "docs/BOUNDS.md", "docs/GLOSSARY.md", "docs/dev/DEFINITIONS.md",
-        "docs/C.md", "examples/c/flexpret.h", "rtl/flexpret.sv",
-    ):  # fmt: skip
+        "docs/BOUNDS.md",
+        "docs/GLOSSARY.md",
+        "docs/dev/DEFINITIONS.md",
+        "docs/C.md",
+        "examples/c/flexpret.h",
+        "rtl/flexpret.sv",
+    ):
         assert f"  {place}: " in ran.stdout
     _, _, counted = ran.stdout.partition("the number of timing instructions:")
     assert counted.split() == ["README.md", "docs/FLEXPRET.md"]
@@ -50,7 +61,9 @@ def test_places_have_each_spelling_and_the_counts() -> None:
 def test_the_recipe_for_a_thread_3_is_a_whole_table(tmp_path: Path) -> None:
     """The table of each page has the keys that a setup requires, and the model takes it."""
     for page in ("C.md", "PROGRAMMING.md"):
-        shown = re.findall(r"^ {7}(\[\[thread\]\]\n(?: {7}.*\n)+)", document(page).read_text(), re.M)
+        shown = re.findall(
+            r"^ {7}(\[\[thread\]\]\n(?: {7}.*\n)+)", document(page).read_text(), re.M
+        )
         (table,) = [it for it in shown if "id = 3" in it]
         table = re.sub(r"^ +", "", table, flags=re.M)
         (thread,) = tomllib.loads(table)["thread"]
@@ -86,11 +99,18 @@ def test_the_view_has_what_the_definition_has() -> None:
     defined = (TOP / "crates/core_model/specs/View.antt").read_text()
     fields = set(re.findall(r"^  pub (\w+) : ", defined, re.M))
     words = {
-        "period": "period", "size": "size of the scratchpads", "thread": "its number", "own": "slots",
-        "i_kinds": "kinds of the regions", "d_kinds": "kinds of the regions",
-        "i_words": "own regions and the read only ones", "d_words": "own regions and the read only ones",
-        "setting": "view", "first": "entry", "shown": "words at its port",
-    }  # fmt: skip
+        "period": "period",
+        "size": "size of the scratchpads",
+        "thread": "its number",
+        "own": "slots",
+        "i_kinds": "kinds of the regions",
+        "d_kinds": "kinds of the regions",
+        "i_words": "own regions and the read only ones",
+        "d_words": "own regions and the read only ones",
+        "setting": "view",
+        "first": "entry",
+        "shown": "words at its port",
+    }
     assert fields == set(words)
     page = text_of("ASSUMPTIONS.md")
     for word in words.values():
@@ -99,7 +119,9 @@ def test_the_view_has_what_the_definition_has() -> None:
 
 @pytest.mark.parametrize("page", ["VIEW.md", "COMMANDS.md"])
 def test_the_status_of_the_scripts_is_named(page: str) -> None:
-    (number,) = re.findall(r"^readonly NOT_BUILT=(\d+)$", (TOP / "tools/launch.bash").read_text(), re.M)
+    (number,) = re.findall(
+        r"^readonly NOT_BUILT=(\d+)$", (TOP / "tools/launch.bash").read_text(), re.M
+    )
     assert number in text_of(page)
 
 
