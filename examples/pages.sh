@@ -2,7 +2,7 @@
 # Runs the commands that README.md, the pages of docs/ and model/README.md show, in a folder of its own, and compares what they
 # write with the page or with a stored file. A line with a command that isn't run here is a difference too. FLEXPRET and
 # FLEXPRET_VIEW name the programs, if they aren't those that ../flexpret and ../flexpret-view leave; ../flexpret is called in any
-# case. The gate does so too. The pages FIRST, C, DEVICES and FLEXPRET have scripts of their own.
+# case. The gate does so too. The pages FIRST, C, PLANTS and FLEXPRET have scripts of their own.
 # shellcheck disable=SC2016,SC2154,SC2317
 set -u
 here=$(dirname "$(readlink -f "${BASH_SOURCE[0]}")")
