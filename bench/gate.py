@@ -162,6 +162,8 @@ def parts(jobs: int) -> list[Part]:
         Part('examples/try.sh', ['examples/try.sh']),
         Part('examples/first.sh', ['examples/first.sh']),
         Part('examples/pages.sh', ['examples/pages.sh']),
+        Part('examples/guides.sh', ['examples/guides.sh']),
+        Part('examples/current/try.sh', ['examples/current/try.sh'], commands=['make', 'riscv64-unknown-elf-gcc']),
         Part('examples/c/try.sh', ['examples/c/try.sh'], commands=['make', 'riscv64-unknown-elf-gcc']),
         Part('examples/loop/try.sh', ['examples/loop/try.sh']),
         Part('examples/plant/try.sh', ['examples/plant/try.sh'], commands=['cc']),

@@ -33,8 +33,10 @@ def docs(tmp_path: Path) -> Path:
     """A copy of the pages for users."""
     folder = tmp_path / "docs"
     folder.mkdir()
+    (folder / "dev").mkdir()
     for page in (TOP / "docs").glob("*.md"):
         shutil.copy(page, folder)
+    shutil.copy(TOP / "docs/dev/REFUSALS.md", folder / "dev")
     return folder
 
 
