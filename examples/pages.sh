@@ -29,11 +29,7 @@ ln -s "$view" flexpret-view
 declare -A known
 
 # The script as one that has built the program: tools may call either.
-mkdir -p "$work/script/crates/flexpret_cli/out"
-ln -s "$top/tools" "$work/script/tools"
-ln -s "$(readlink -f "$FLEXPRET")" "$work/script/crates/flexpret_cli/out/flexpret_cli"
-cp "$top/flexpret" "$work/script"
-touch "$work/script/installed"
+script_around "$FLEXPRET" "$work/script" "$top"
 
 # A command with the program, and again with the script if it calls a tool that asks for bounds.
 by_either() {

@@ -59,6 +59,14 @@ def test_a_long_sentence_is_reported(tmp_path: Path) -> None:
     assert status == 1 and "page.md:5: 36 words" in text and "mean sentence  18.5" in text
 
 
+def test_man_pages_and_helps_are_read(tmp_path: Path) -> None:
+    man, tool = tmp_path / "it.1", tmp_path / "fp_it"
+    man.write_text(".TH IT 1\n.SH NAME\n" + "word " * 20 + "\n.B bold\n" + "word " * 20 + "\n.PP\nShort.\n")
+    tool.write_text('"""Short.\n\n' + "word " * 30 + '; more"""\nadd("x", help="' + "word " * 40 + '")\n')
+    status, text = said("prose.py", man, tool)
+    assert status == 1 and "it.1:3: 41 words" in text and "40 words" in text and "30 words" not in text
+
+
 @pytest.mark.parametrize(
     "line", ["- item\n  goes on", "| a | b |\n|---|---|\n| one | two |", "1. first\n2. second", "`code` [link](x.md)"]
 )

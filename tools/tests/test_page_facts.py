@@ -1,6 +1,7 @@
 """Statements of the pages that no table holds: each is compared with the tree or the model."""
 from __future__ import annotations
 
+import os
 import re
 import subprocess
 import sys
@@ -135,3 +136,96 @@ def test_the_gate_runs_the_model() -> None:
     page, gate = (TOP / "model/README.md").read_text(), (TOP / "bench/gate.py").read_text()
     assert "'-m', 'model.tables.check'" in gate and "pytest('model', 'model', 1)" in gate
     assert "The gate runs its tests" in page and "--model" in page
+
+
+PAGES = sorted(
+    [
+        TOP / "README.md",
+        *(TOP / "docs").glob("*.md"),
+        TOP / "docs/dev/DEVICES.md",
+        TOP / "tools/README.md",
+    ]
+    + [TOP / "model/README.md", TOP / "rtl/README.md", *(TOP / "examples").rglob("README.md")]
+)
+"""The pages for users, and those with commands that they show."""
+
+COMMAND = re.compile(
+    r"^    (?:\./|tools/|examples/|crates/|model/|rtl/|work/|python3 |make |cc |cd |rt"
+    r" |riscv64-|apt-get |gtkwave |sbatch )"
+)
+
+NOT_SHOWN_AS_RUN = {
+    "apt-get ": "installs packages",
+    "gtkwave ": "opens a window",
+    "sbatch ": "needs a batch system",
+    "./test": "the gate itself",
+    "model/check.sh": "its two halves are parts of the gate",
+    "examples/sweep/make.py work": "examples/sweep/try.sh, with fewer setups",
+    "work/sweep.sh": "the same",
+    "examples/sweep/table.py work": "the same",
+    "cd work && gnuplot": "gnuplot isn't asked for",
+    "tools/fp_budget prog.elf": "a form, with names of the reader's own",
+    "riscv64-unknown-elf-readelf": "examples/pages.sh runs it on another executable",
+    "riscv64-unknown-elf-gcc": "a form; the Makefile of examples/c has the same options",
+    "tools/fp_layout x.s": "a part of that form",
+    "tools/fp_budget first.toml period.toml": "tools/tests/test_page_facts.py",
+}
+"""Commands without a `$`, each with where it is run, or why it isn't."""
+
+
+def test_each_command_of_a_page_is_run() -> None:
+    """With a `$` by the script of its page; else by examples/pages.sh, or as said above."""
+    listed = (TOP / "examples/pages.sh").read_text()
+    for page in PAGES:
+        for line in page.read_text().splitlines():
+            command = line.strip()
+            if COMMAND.match(line) and command not in listed:
+                assert any(
+                    command.startswith(it) for it in NOT_SHOWN_AS_RUN
+                ), f"{page.name}: {command}"
+
+
+def test_each_page_with_commands_has_a_script() -> None:
+    scripts = [
+        *(TOP / "examples").rglob("*.sh"),
+        TOP / "rtl/try.sh",
+        TOP / "tools/tests/test_readme.py",
+    ]
+    text = "\n".join(it.read_text() for it in scripts)
+    for page in PAGES:
+        if re.search(r"^    \$ ", page.read_text(), re.M):
+            read = (
+                rf"\b{page.stem}\b"
+                if page.stem != "README"
+                else f"{page.parent.name}.*README.md|README.md"
+            )
+            assert re.search(read, text), page
+
+
+def test_the_period_of_the_first_program(flexpret: str, tmp_path: Path) -> None:
+    """The last commands of FIRST's section 4, which need the packages of the tools."""
+    page = document("FIRST.md").read_text()
+    blocks = re.findall(
+        r"^    (?:\$ )?cat >>? (\S+) <<'END'\n((?:    .*\n|\n)*?)    END$", page, re.M
+    )
+    files: dict[str, str] = {}
+    for name, text in blocks:
+        if name == "first.s" and name in files:
+            break
+        files[name] = files.get(name, "") + re.sub("^    ", "", text, flags=re.M)
+    for name, text in files.items():
+        (tmp_path / name).write_text(text)
+    image = subprocess.run(
+        [flexpret, "asm", "first.s"], cwd=tmp_path, capture_output=True, check=True
+    )
+    (tmp_path / "first.fpx").write_bytes(image.stdout)
+    (call,) = re.findall(r"^    (?:\$ )?tools/(fp_budget first.toml period.toml)$", page, re.M)
+    ran = subprocess.run(
+        [sys.executable, *(TOP / "tools" / call).as_posix().split()],
+        cwd=tmp_path,
+        env={**os.environ, "FLEXPRET": flexpret},
+        capture_output=True,
+        text=True,
+        check=False,
+    )
+    assert ran.returncode == 0 and ran.stdout.strip() in page
