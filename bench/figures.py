@@ -297,8 +297,8 @@ def section() -> Figure:
 
 
 FLOW = [
-    ("t0_filter.c", "gcc -O2 -S", "C with FP_LOOP"),
-    ("t0_filter.s", "fp_layout", "assembly"),
+    ("t0_motor.c", "gcc -O2 -S", "C with FP_LOOP"),
+    ("t0_motor.s", "fp_layout", "assembly"),
     ("own.elf", "flexpret elf", "assembled and linked"),
     ("own.fpx", "flexpret run", "the image"),
     ("trace", "fp_visits", "what happened"),

@@ -1,13 +1,14 @@
 #!/usr/bin/env python3
 """All that ./test runs: `rt ci`, and then the parts of `parts`, as many at once as there are processors.
 
-A part whose modules or commands aren't installed is skipped, and its line lists them. As root the script first installs missing
+A whole run leaves a record in out/test.json, which tools/fp_evidence shows. A part whose modules or commands aren't installed is skipped, and its line lists them. As root the script first installs missing
 ones by `apt-get`. The status is 0 if nothing failed.
 """
 from __future__ import annotations
 
 import argparse
 import contextlib
+import json
 import os
 import re
 import shlex
@@ -20,12 +21,13 @@ from collections import Counter
 from collections.abc import Iterable, Iterator, Sequence
 from concurrent.futures import ThreadPoolExecutor, as_completed
 from dataclasses import dataclass, field
+from datetime import UTC, datetime
 from pathlib import Path
 
 TOP = Path(__file__).resolve().parent.parent
 sys.path.insert(0, str(TOP / 'tools'))
 
-from fplaunch.sources import Checkout, kit_line  # noqa: E402
+from fplaunch.sources import Checkout, kit_line, said_by  # noqa: E402
 
 PROGRAMS = {'FLEXPRET': 'flexpret_cli', 'FLEXPRET_VIEW': 'flexpret_view', 'LOOP_CLI': 'loop_cli'}
 """The variables that name the programs to the scripts, and the crates that make them."""
@@ -160,6 +162,7 @@ def parts(jobs: int) -> list[Part]:
         Part('examples/try.sh', ['examples/try.sh']),
         Part('examples/first.sh', ['examples/first.sh']),
         Part('examples/pages.sh', ['examples/pages.sh']),
+        Part('examples/guides.sh', ['examples/guides.sh'], modules=['elftools', 'jsonschema', 'networkx']),
         Part('examples/c/try.sh', ['examples/c/try.sh'], commands=['make', 'riscv64-unknown-elf-gcc']),
         Part('examples/loop/try.sh', ['examples/loop/try.sh']),
         Part('examples/plant/try.sh', ['examples/plant/try.sh'], commands=['cc']),
@@ -229,27 +232,74 @@ def stamped() -> Iterator[None]:
             checkout.write_stamp(kit_line(), sources)
 
 
-def run_ci() -> Sum:
+@dataclass
+class Ci:
+    """What `rt ci` printed: the crates that are proved, the mutants that the proofs refused, and its line on both. It has that line
+    only if all is well. It may have kept proofs of the same files from earlier runs, as the line says then."""
+    sum: Sum = field(default_factory=Sum)
+    crates: set[str] = field(default_factory=set)
+    refused: int = 0
+    well: str = ''
+
+    def read(self, line: str) -> None:
+        if found := re.match(r'rt: (\w+) proved', line):
+            self.crates.add(found[1])
+        elif found := re.match(r'rt: (ok;.*must-fail edits: (\d+) refused.*)', line):
+            self.well, self.refused = found[1], int(found[2])
+            self.crates.update(Checkout(TOP, 'flexpret_cli').libraries())
+
+
+def run_ci() -> Ci:
     """Runs `rt ci` and prints its lines as they come. If `rt` can't be started, one line says why, and one test has failed."""
-    last = ''
+    last, said = '', Ci()
     try:
         child = subprocess.Popen(['rt', 'ci'], cwd=TOP, stdin=subprocess.DEVNULL, stdout=subprocess.PIPE, text=True, errors='replace')
     except OSError as fault:
         print(f"./test: rt ci can't be run ({fault.strerror}): put rt of the kit that README.md names on the PATH, or leave it out by --no-ci",
               flush=True)
-        return Sum(failed=1)
+        return Ci(Sum(failed=1))
     with child:
         assert child.stdout
         for line in child.stdout:
             print(line, end='', flush=True)
             last = line
+            said.read(line)
     found = CI_LINE.match(last)
-    if not found:
-        return Sum(failed=1)
-    counted = Sum(int(found[1]), int(found[2]))
-    if child.returncode and not counted.failed:
-        counted.failed = 1
-    return counted
+    said.sum = Sum(int(found[1]), int(found[2])) if found else Sum(failed=1)
+    if child.returncode and not said.sum.failed:
+        said.sum.failed = 1
+    return said
+
+
+# ---------------------------------------------------------------- the record
+
+RECORD = TOP / 'out' / 'test.json'
+"""What a whole run leaves, for fp_evidence."""
+
+
+def here() -> tuple[str, list[str]]:
+    """The commit of this checkout, and its tracked files that differ from it."""
+    words = ['git', '--no-optional-locks', 'status', '--porcelain', '--untracked-files=no']
+    try:
+        ran = subprocess.run(words, cwd=TOP, capture_output=True, text=True, check=False)
+    except OSError:
+        return '', []
+    return said_by(['git', 'rev-parse', 'HEAD'], TOP), sorted(line[3:] for line in ran.stdout.splitlines())
+
+
+def write_record(began: tuple[str, list[str]], ci: Ci, done: dict[str, Sum], total: Sum, path: Path = RECORD) -> None:
+    """Writes the record of a whole run. One during which the checkout changed leaves none."""
+    path.unlink(missing_ok=True)
+    if here() != began:
+        return
+    record = {
+        'commit': began[0], 'changes': began[1], 'kit': kit_line(), 'ended': datetime.now(UTC).strftime('%Y-%m-%d %H:%M UTC'),
+        'last': total.line(), 'ci': ci.sum.line(), 'well': ci.well, 'crates': sorted(ci.crates), 'refused': ci.refused,
+        'parts': {name: done[name].line() for name in sorted(done)},
+        'skipped': [f'{count}: {why}' for why, count in sorted(total.reasons().items())],
+    }
+    path.parent.mkdir(exist_ok=True)
+    path.write_text(json.dumps(record, indent=1) + '\n')
 
 
 # ---------------------------------------------------------------- the other parts
@@ -357,10 +407,12 @@ def main() -> int:
     if options.list:
         print('\n'.join(part.name for part in chosen))
         return 0
-    total = Sum()
-    if not options.only and not options.no_ci:
+    total, ci, done, began = Sum(), Ci(), dict[str, Sum](), here()
+    is_whole = not options.only and not options.no_ci
+    if is_whole:
         with stamped():
-            total.add(run_ci())
+            ci = run_ci()
+            total.add(ci.sum)
     if not options.no_install:
         install(missing_packages())
     with tempfile.TemporaryDirectory(prefix='test-') as folder:
@@ -375,6 +427,9 @@ def main() -> int:
                 print('\n'.join([f'== {part.name}', *said.splitlines()[-SHOWN:]]))
             print(f'{part.name}: {found.line()}, {seconds:.0f} seconds', flush=True)
             total.add(found)
+            done[part.name] = found
+    if is_whole:
+        write_record(began, ci, done, total)
     for why, count in total.reasons().items():
         print(f'skipped: {count}: {why}')
     print(total.line())

@@ -4,10 +4,10 @@
 usage: bench/places.py [--lines] NAME..
 
 NAME is an existing instruction, as `gth` or `ee`: choose those that the new one resembles. A place is a file that
-has a name as a whole word, in the spelling of the mnemonic or of the variant (`gth`, `Gth`), in definitions,
-sources, proofs, edits, the model, the tools and the documents. Data of tests and generated files aren't
-searched. A file that treats an instruction by a rule for all others doesn't name it: look at `fallbacks`, which are
-listed last. Status: 0 places were found; 1 none was; 2 usage error.
+has a name as a whole word, as `gth`, `Gth` or `GTH`, in definitions, sources, proofs, edits, the model, the tools, the
+core in SystemVerilog and the documents. Data of tests and generated files aren't searched. A file that treats an
+instruction by a rule for all others doesn't name it: look at `fallbacks`, which are listed last, with the pages that
+count the timing instructions. Status: 0 places were found; 1 none was; 2 usage error.
 """
 from __future__ import annotations
 
@@ -28,9 +28,13 @@ KINDS = {
     "model": ["model/**/*.py"],
     "tools": ["tools/**/*.py", "tools/fp_*"],
     "C": ["examples/c/*.h"],
-    "documents": ["docs/**/*.md"],
+    "core in SystemVerilog": ["rtl/*.sv"],
+    "documents": ["README.md", "docs/**/*.md"],
 }
 """The kinds of places, each with patterns of its files."""
+
+COUNTED = re.compile(r"\b(?:five|six|seven|eight) timing\s+instructions\b")
+"""A page that counts the timing instructions."""
 
 FALLBACK = re.compile(r"^\s*(?:lag i |edges_of i |\| ?Ins::|_ =>|Ins::\w+ \{ \.\. \}\s*\|)")
 """A line that treats several instructions, or all others, alike."""
@@ -55,7 +59,7 @@ def files_of(kind: str) -> Iterator[Path]:
 
 def places(names: list[str]) -> Iterator[Place]:
     """The places that name one of the instructions."""
-    words = {spelling for name in names for spelling in (name.lower(), name.capitalize())}
+    words = {spelling for name in names for spelling in (name.lower(), name.capitalize(), name.upper())}
     pattern = re.compile(rf"\b(?:{'|'.join(sorted(words))})\b|fp_\w*_({'|'.join(sorted(words))})\b")
     for kind in KINDS:
         for file in files_of(kind):
@@ -72,6 +76,13 @@ def fallbacks() -> Iterator[str]:
             text = file.read_text(errors="replace")
             if "Ins" in text and any(FALLBACK.match(line) for line in text.splitlines()):
                 yield str(file.relative_to(TOP))
+
+
+def counts() -> Iterator[str]:
+    """The pages that count the timing instructions."""
+    for file in files_of("documents"):
+        if COUNTED.search(file.read_text()):
+            yield str(file.relative_to(TOP))
 
 
 def main() -> int:
@@ -96,6 +107,9 @@ def main() -> int:
             print(f"    {number}: {line}")
     print("rules for several or all other instructions:")
     for file in fallbacks():
+        print(f"  {file}")
+    print("the number of timing instructions:")
+    for file in counts():
         print(f"  {file}")
     return 0
 

@@ -70,6 +70,15 @@ read_page() {
     [ -z "$command" ] || try_command "$command"
 }
 
+# script_around PROGRAM FOLDER TOP: makes a folder with the script ./flexpret around a program that is built, as tools call it by default.
+script_around() {
+    mkdir -p "$2/crates/flexpret_cli/out"
+    ln -s "$3/tools" "$2/tools"
+    ln -s "$(readlink -f "$1")" "$2/crates/flexpret_cli/out/flexpret_cli"
+    cp "$3/flexpret" "$2"
+    touch "$2/installed"
+}
+
 # What a script does that wants no more than the commands.
 try_command() { as_shown "$1"; }
 other_line() { :; }

@@ -1,5 +1,5 @@
 #!/usr/bin/env bash
-# Runs each command that docs/DEVICES.md shows, at the top of the repository, and compares what it writes with the page; the
+# Runs each command that docs/dev/DEVICES.md and docs/PLANTS.md show, at the top of the repository, and compares what it writes with the page; the
 # files that a command makes are compared with those of the repository, which are left as they are. What the page shows of
 # sources has to stand in them. With --built the commands that call `rt` are left out, so that the programs have to be built
 # already: so does the gate. FLEXPRET names the program of flexpret_cli, if it isn't flexpret.
@@ -56,5 +56,6 @@ other_line() {
     yes:*) code+=${code:+$'\n'}$1 ;;
     esac
 }
-read_page "$top/docs/DEVICES.md"
+read_page "$top/docs/dev/DEVICES.md"
+read_page "$top/docs/PLANTS.md"
 exit $failed

@@ -33,8 +33,10 @@ def docs(tmp_path: Path) -> Path:
     """A copy of the pages for users."""
     folder = tmp_path / "docs"
     folder.mkdir()
+    (folder / "dev").mkdir()
     for page in (TOP / "docs").glob("*.md"):
         shutil.copy(page, folder)
+    shutil.copy(TOP / "docs/dev/REFUSALS.md", folder / "dev")
     return folder
 
 
@@ -55,6 +57,14 @@ def test_a_long_sentence_is_reported(tmp_path: Path) -> None:
     page.write_text("# Page\n\nShort.\n\n" + " ".join(["word"] * 36) + ".\n\n    code " + "word " * 40 + "\n")
     status, text = said("prose.py", page)
     assert status == 1 and "page.md:5: 36 words" in text and "mean sentence  18.5" in text
+
+
+def test_man_pages_and_helps_are_read(tmp_path: Path) -> None:
+    man, tool = tmp_path / "it.1", tmp_path / "fp_it"
+    man.write_text(".TH IT 1\n.SH NAME\n" + "word " * 20 + "\n.B bold\n" + "word " * 20 + "\n.PP\nShort.\n")
+    tool.write_text('"""Short.\n\n' + "word " * 30 + '; more"""\nadd("x", help="' + "word " * 40 + '")\n')
+    status, text = said("prose.py", man, tool)
+    assert status == 1 and "it.1:3: 41 words" in text and "40 words" in text and "30 words" not in text
 
 
 @pytest.mark.parametrize(

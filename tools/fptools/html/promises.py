@@ -3,9 +3,9 @@ from __future__ import annotations
 
 PROVED = (
     (
-        "No visit of a section takes longer than its bound",
+        "No execution of a section takes longer than its bound",
         "The thread starts hard and awake, no thread writes slots or modes, "
-        "the visit keeps your loop bounds",
+        "the execution keeps your loop bounds",
     ),
     (
         "Some path within your loop bounds costs exactly the bound",
@@ -19,17 +19,40 @@ PROVED = (
 """Promises, each with its conditions."""
 
 CHECKS = (
-    ("Loop bounds are your claim.", "Nothing checks them. fp_visits compares them with a run."),
     (
-        "A trap ends a visit.",
+        "The hardware is this profile.",
+        "Nothing here is proved of a chip or of the published core. fp_record compares recorded signals with the definition",
+    ),
+    ("The image is the one that you flash.", "fp_budget compares image and executable."),
+    ("The setup is the one that you use:", "slots, regions, modes, period."),
+    ("No thread has a permit,", "or you know what it writes, and when."),
+    (
+        "Inputs are fixed before the run.",
+        "A plant that responds to the thread is a closed loop: that it models your hardware is your claim.",
+    ),
+    (
+        "fp_budget says holds, with status 0 and no warning.",
+        "bound alone isn't enough: it stops at a call or a branch out of the section.",
+    ),
+    (
+        "Loop bounds are your claim.",
+        "Each n of FP_LOOP is true for every input. State how you know. "
+        "Nothing checks it; fp_visits compares it with a run.",
+    ),
+    (
+        "A trap ends an execution.",
         "An expiry, a misaligned access or a refused access isn't in the bound, "
         "and neither is the handler.",
     ),
-    ("The wait for the first slot isn't included.", "Add a frame where it matters."),
     (
-        "A stack overrun isn't detected",
-        "until it leaves the region. Before that it overwrites the thread's own data. "
-        "fp_stack and fp_budget compare the deepest stack with the room. For calls, no store may overwrite a return address.",
+        "A section isn't a period.",
+        "It leaves out the wait for the first slot, and code between the wake and the section. "
+        "--period bounds all of it.",
+    ),
+    (
+        "The stack fits,",
+        "as fp_stack has it. A stack overrun isn't detected until it leaves the region. "
+        "No store may go beyond its array: it could overwrite a return address.",
     ),
     (
         "Marks don't stop the compiler.",
@@ -40,11 +63,15 @@ CHECKS = (
         "Time has 64 bits.",
         "A loop that adds only to the low word stops waiting after 4.29 seconds.",
     ),
-    ("A bound belongs to one image and one slots register.", "Ask again after every change."),
-    ("The hardware is this profile.", "Nothing here is proved of a chip or of the published core."),
-    ("The image is the one that you flash.", "fp_budget compares image and executable."),
-    ("The setup is the one that you use:", "slots, regions, modes, period."),
+    (
+        "A bound belongs to one image and one slots register.",
+        "Ask again after every change",
+    ),
+    (
+        "A long run breaks nothing.",
+        "With the worst inputs that you know, fp_visits sees no execution above the bound and no claim broken.",
+    ),
 )
-"""What whoever uses a bound must check."""
+"""What whoever uses a bound must check: the numbered list of the page, in its order."""
 
 TESTED = "The texts of the view and all tools in Python are tested, not proved."
