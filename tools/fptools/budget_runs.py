@@ -5,7 +5,7 @@ from dataclasses import dataclass, replace
 from typing import Mapping, Sequence
 
 from fptools.budget_files import Budget, Result, Verdict
-from fptools.claim_runs import marks_for
+from fptools.claim_runs import broken_text, marks_for
 from fptools.elf import Program, ProgramError
 from fptools.inference import UNSEEN
 from fptools.observed import Kind, Observation, doubt_of, question_of, run_and_observe
@@ -48,7 +48,9 @@ class Runs:
     def observed(self, results: Sequence[Result]) -> list[Compared]:
         """The results with the runs of their threads."""
         watched = [None if it.waits else self._watched(it) for it in results]
-        periods = PeriodRuns(self.flexpret, self.setup, self.cycles, self.name).compared(results)
+        marks = marks_for(self.program, self.image)
+        runs = PeriodRuns(self.flexpret, self.setup, self.cycles, self.name, marks)
+        periods = runs.compared(results)
         found = [Compared(periods.get(at, it)) for at, it in enumerate(results)]
         for thread in sorted({it.budget.thread for it in results}):
             own = [
@@ -134,7 +136,7 @@ class Runs:
             if is_of_all or any(start <= mark.at < end for start, end in parts)
         }
         return [
-            f"{it}: the run broke the claim in cycle {it.broken_at}"
+            broken_text(it)
             for it in observation.claims
             if it.is_broken and it.claim in own
         ]

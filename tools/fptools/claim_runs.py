@@ -58,6 +58,11 @@ class Passes:
         return f"{self.claim}: claimed {self.claim.most}, seen {self.most}"
 
 
+def broken_text(passes: Passes) -> str:
+    """That a run broke a claim, and when."""
+    return f"{passes}: the run broke the claim in cycle {passes.broken_at}"
+
+
 @dataclass
 class ClaimMeter:
     """Counts the passes of marks in a trace."""

@@ -5,6 +5,8 @@ from dataclasses import dataclass, field, replace
 from typing import Sequence
 
 from fptools.budget_files import Result, Verdict
+from fptools.claim_runs import ClaimMeter, broken_text
+from fptools.flow_records import Marks
 from fptools.observed import RETIRES, opened_run
 from fptools.program import Flexpret
 from fptools.setup import Setup
@@ -79,25 +81,29 @@ class PeriodRuns:
     setup: Setup
     cycles: int
     name: str  # of the tool that shows how far a run is
+    marks: Marks | None = None  # whose claims are compared with the run
 
     def compared(self, results: Sequence[Result]) -> dict[int, Result]:
         """The results for periods by their place, each with a run of its thread."""
         found: dict[int, Result] = {}
         for thread in sorted({it.budget.thread for it in results if it.waits}):
             own = [at for at, it in enumerate(results) if it.waits and it.budget.thread == thread]
-            traps, seen, broken = self._run(thread, [results[at].waits for at in own])
+            claims = ClaimMeter(self.marks or Marks())
+            traps, seen, broken = self._run(thread, [results[at].waits for at in own], claims)
             for at, it in zip(own, seen):
-                found[at] = self._with_run(results[at], it, traps, broken)
+                found[at] = _with_claims(self._with_run(results[at], it, traps, broken), claims)
         return found
 
-    def _run(self, thread: int, loops: Sequence[tuple[int, ...]]) -> tuple[str, list[Seen], str]:
+    def _run(
+        self, thread: int, loops: Sequence[tuple[int, ...]], claims: ClaimMeter
+    ) -> tuple[str, list[Seen], str]:
         """The first trap of a run, the periods of loops in it, and what is wrong with its trace."""
         with opened_run(self.flexpret, self.setup.path, thread, self.cycles) as source:
             reader = TraceReader(source, f"T{thread}", 0, None, Progress(self.name, self.cycles))
             judge = WaitJudge(reader, turns_of(self.setup, thread), self.setup.period)
             meter, traps, broken = PeriodMeter(judge, self.setup.period, loops), TrapMeter(), ""
             try:
-                measure(reader, [meter, traps])
+                measure(reader, [meter, traps, claims])
             except BrokenTrace as fault:
                 broken = str(fault)
         first = min(traps.seen.values(), key=lambda it: it.first, default=None)
@@ -146,6 +152,15 @@ class PeriodRuns:
             result,
             text=f"{result.text}; the longest of {seen.periods} periods takes {cycles}, {late}",
         )
+
+
+def _with_claims(result: Result, claims: ClaimMeter) -> Result:
+    """A result with the claims that the run broke: the bound takes them for granted."""
+    texts = [broken_text(it) for it in claims.passes if it.is_broken]
+    if not texts:
+        return result
+    text = "; ".join([*texts, result.text])
+    return replace(result, verdict=Verdict.OVER, text=text, is_broken=True)
 
 
 def _with(text: str, trap: str) -> str:

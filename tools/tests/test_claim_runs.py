@@ -192,6 +192,47 @@ void main0(void)
         assert (ran.returncode, says in ran.stdout) == (status, True), ran.stdout
 
 
+PERIOD = """
+static volatile uint32_t sum;
+void main0(void)
+{
+    uint64_t next = fp_get_time();
+    for (;;) {
+        uint32_t n = FP_PORT, s = 0;
+        if (n > 20) {
+            for (uint32_t i = 0; i < 30; i++) sum += i;
+        } else {
+            FP_LOOP(tap, 8);
+            for (uint32_t i = 0; i < n; i++) { FP_ROUND(tap); s += i * n; __asm__ volatile(""); }
+        }
+        FP_PORT = s;
+        next += 20000;
+        fp_wait_until(next);
+    }
+}
+"""
+"""A loop that waits, whose bound is that of the way without the claim."""
+
+
+def test_a_period_with_a_broken_claim(case: Case) -> None:
+    """The run stays below the bound, which takes the claim for granted."""
+    case.build([PERIOD], "-Os", "-g")
+    budgets = case.folder / "budgets.toml"
+    budgets.write_text('[[budget]]\nname = "it"\nthread = 0\nperiod = "main0"\nns = 20000\n')
+    elf, broken = case.folder / "own.elf", "x.c:13 tap: claimed 8, seen 9"
+    for inputs, status, says in (
+        ("[[0, 8]]", 0, "holds    T0 period of main0"),
+        ("[[0, 3], [4000, 9]]", 1, f"BROKEN   T0 period of main0: {broken}"),
+    ):
+        setup = case.set_up(inputs)
+        ask = ("fp_budget", elf, "--setup", setup, "--thread", 0, "--period", "--ns", 20000)
+        ran = case.asking(*ask, "--function", "main0", "--runs", 9000)
+        assert (ran.returncode, says in ran.stdout) == (status, True), ran.stdout
+    words = ("--setup", setup, "--budgets", budgets, "--elf", elf, "--cycles", 9000)
+    ran = case.asking("fp_visits", *words)
+    assert (ran.returncode, broken in ran.stdout) == (1, True), ran.stdout
+
+
 def test_claims_of_units_of_one_name_are_told(case: Case) -> None:
     """They can't be told apart, so no run is compared with them."""
     one, other = LOOP, LOOP.replace("main0", "other").replace("step_", "other_")
