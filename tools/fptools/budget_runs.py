@@ -8,8 +8,8 @@ from fptools.budget_files import Budget, Result, Verdict
 from fptools.claim_runs import broken_text, marks_for
 from fptools.elf import Program, ProgramError
 from fptools.inference import UNSEEN
-from fptools.observed import Kind, Observation, doubt_of, question_of, run_and_observe
-from fptools.observed_text import Text
+from fptools.observed import Kind, Observation, doubt_of, question_of, run_and_observe, silence_of
+from fptools.observed_text import Text, silence_text
 from fptools.period_runs import PeriodRuns
 from fptools.program import Flexpret
 from fptools.section import walk_all
@@ -118,9 +118,9 @@ class Runs:
             return replace(result, verdict=Verdict.UNKNOWN, text=text)
         if not seen.count or slowest is None:
             return replace(result, text=f"{result.text}; no execution in {self.cycles} cycles", executions=0)
-        return replace(
-            result, text=f"{result.text}; the longest of {seen.count} executions takes {slowest[0]}"
-        )
+        text = f"{result.text}; the longest of {seen.count} executions takes {slowest[0]}"
+        silent = silence_of(seen, observation.question.shown_to)
+        return replace(result, text=text + (f"; {silence_text(silent)}" if silent else ""))
 
     def _broken_claims(
         self, budget: Budget, observation: Observation, watched: Watched

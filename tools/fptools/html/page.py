@@ -24,8 +24,8 @@ from fptools.html.promises import CHECKS, PROVED, TESTED
 from fptools.html.timeline import KINDS, MOST_WINDOW, Timeline
 from fptools.claim_runs import Passes
 from fptools.labels import names_at
-from fptools.observed import Kind
-from fptools.observed_text import Text, ratio
+from fptools.observed import Kind, silence_of
+from fptools.observed_text import Text, ratio, silence_text
 from fptools.reports import without_controls
 from fptools.trace import CAUSES
 from fptools.visits import Rounds
@@ -312,6 +312,11 @@ class Page:
             found += [text.unknown(it, one) for one in it.doubts]
             # A budget that is over says so itself, and that an execution didn't end is of the run.
             found += [text.broken(it, one) for one in it.breaks if one.kind is not Kind.BUDGET or one.doubt]
+            found += [
+                f"T{it.question.thread} {one.watched.name}: {silence_text(silent)}"
+                for one in it.executions
+                if (silent := silence_of(one, it.question.shown_to))
+            ]
         return found
 
 
