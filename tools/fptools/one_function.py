@@ -44,9 +44,11 @@ def without_twins(name: str) -> str:
 
 
 def is_one(names: Sequence[str], aliases: Mapping[str, str]) -> bool:
-    """Whether all names of an address are of one function, by the aliases of the sources."""
-    known = {without_twins(aliases.get(it, it)) for it in names}
-    return len(known) == 1 and len(set(names)) == len(names)
+    """Whether all names of an address are of one function, by the aliases of the sources. The
+    function itself has to be one of the names: aliases of two local functions of one name may be
+    at one address too."""
+    own = (it if aliases.get(it) not in names else aliases[it] for it in names)
+    return len({*map(without_twins, own)}) == 1 and len({*names}) == len(names)
 
 
 @dataclass(frozen=True)
@@ -59,8 +61,9 @@ class Origin:
 
 
 def origins_of(units: Collection[Any], file_of: Any) -> dict[int, list[Origin | None]]:
-    """The functions of units of debug information by their first addresses; None for a function
-    that other units can't name. `file_of` gives the file of a unit's number."""
+    """The functions of units of debug information by their first addresses; None for one that can't
+    be an inline function of C++, of which a linker keeps one copy. `file_of` gives the file of a
+    unit's number."""
     found: dict[int, list[Origin | None]] = defaultdict(list)
     for unit in units:
         for entry in unit.iter_DIEs():
@@ -74,12 +77,11 @@ def _origin(unit: Any, entry: Any, file_of: Any) -> Origin | None:
     known: dict[str, Any] = {}
     for it in _chain(entry):
         known = {**it.attributes, **known}
-    needed = ("DW_AT_decl_file", "DW_AT_decl_line", "DW_AT_external")
-    name = known.get("DW_AT_linkage_name", known.get("DW_AT_name"))
-    if name is None or not all(it in known for it in needed):
+    needed = ("DW_AT_linkage_name", "DW_AT_decl_file", "DW_AT_decl_line", "DW_AT_external")
+    if not all(it in known for it in needed):
         return None
-    file = file_of(unit, known["DW_AT_decl_file"].value)
-    return Origin(name.value.decode(), file, known["DW_AT_decl_line"].value)
+    name, number, line = (known[it].value for it in needed[:3])
+    return Origin(name.decode(), file_of(unit, number), line) if name[:2] == b"_Z" else None
 
 
 def _chain(entry: Any) -> Iterator[Any]:

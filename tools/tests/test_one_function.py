@@ -42,6 +42,8 @@ def test_both_constructors_of_a_class_have_one_name(name: str, known: str) -> No
         (["f", "g"], False),
         (["f", "f"], False),  # local functions of two units
         (["f", "alias"], True),
+        (["alias", "more"], False),  # the names of two local functions f, which aren't known
+        (["f", "alias", "more"], True),
         (["_ZN1AC1Em", "_ZN1AC2Em"], True),
         (["_ZN1AC1Em", "_ZN1AC2Em", "_ZN1AC2Em"], False),
         (["_ZN1AC1Em", "_ZN1BC2Em"], False),
@@ -49,7 +51,7 @@ def test_both_constructors_of_a_class_have_one_name(name: str, known: str) -> No
     ],
 )
 def test_names_of_one_function(names: list[str], is_known: bool) -> None:
-    assert is_one(names, {"alias": "f"}) is is_known
+    assert is_one(names, {"alias": "f", "more": "f"}) is is_known
 
 
 HEADER = """struct A { u32 v; A(u32 n); ~A(); u32 inside(u32 n); };
@@ -205,3 +207,19 @@ def test_an_alias_is_recorded_once() -> None:
     made = with_records(text)
     assert made.count(".fp_flow_aliases") == 1
     assert re.findall(r'\.asciz "(\w+)", "(\w+)"\n', made) == [("g", "f")]
+
+
+def test_folded_functions_that_only_lines_tell(tmp_path: Path) -> None:
+    """The linker folds a local function into a global one, and drops its symbol."""
+    head = HEAD.replace("static volatile", "extern volatile")
+    one = f"{head}void one(u32 n) {LOOP}\n"
+    own = LOOP.replace("(i, 7)", "(i, 70)")
+    main = "void main0(void) { for (;;) { one(FP_PORT); two(FP_PORT); } }\n"
+    other = f"{head}volatile u32 a[64], count, tries; void one(u32);\nAPART void two(u32 n) {own}\n"
+    compiler = [*CLANG, "-mno-relax"]
+    linker = [*LLD, "--icf=all", "--discard-all"]
+    options = ["-O0", "-ffunction-sections"]
+    found = stated(built(tmp_path, [one, other + main], options, compiler, linker))
+    assert "two" not in found
+    assert [it.bound for it in found["one"]] == [None]
+    assert "one shares its code with another function: link without --icf" in found["one"][0].doubt
