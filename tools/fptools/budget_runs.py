@@ -125,8 +125,8 @@ class Runs:
     def _broken_claims(
         self, budget: Budget, observation: Observation, watched: Watched
     ) -> list[str]:
-        """The claims that a run broke with marks in the section and in functions that it calls; all,
-        where code that isn't known belongs to it."""
+        """The claims that a run broke with marks in the section and in what it calls; all, where
+        code that isn't known belongs to it."""
         marks = observation.question.marks
         parts = ((watched.start, watched.end), *watched.routines)
         is_of_all = self.is_of_functions or self._has_unknown(budget, watched)

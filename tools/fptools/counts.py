@@ -3,9 +3,9 @@ is believed.
 
 A test is a branch that leaves the loop on one side. It compares a counter with a limit. All ways of
 a round to the test add the same number to the counter, and so do all whole rounds; the limit is the
-same at each test, or moves in this way too. Where both are known on entry, the test is computed with
-32 bits until it leaves. Where only their distance is known, they have to meet. Each round passes one
-of some tests that leave the loop in the same round."""
+same at each test, or moves in this way too. Where both are known on entry, the test is computed
+with 32 bits until it leaves. Where only their distance is known, they have to meet. Each round
+passes one of some tests that leave the loop in the same round."""
 from __future__ import annotations
 
 from dataclasses import dataclass

@@ -184,7 +184,8 @@ def test_two_paths_to_one_header(tmp_path: Path, paths: tuple[str, str], is_laid
     (tmp_path / "in").mkdir()
     (tmp_path / "own.h").write_text(
         "u32 depth(u32);\nstatic inline u32 each(u32 n, u32 more) { u32 s = 0; FP_LOOP(i, 2); "
-        "for (u32 i = 0; i < n; i++) { FP_ROUND(i); s += a[i]; if (more) s += depth(more - 1); } return s; }\n"
+        "for (u32 i = 0; i < n; i++) { FP_ROUND(i); s += a[i]; if (more) s += depth(more - 1); } "
+        "return s; }\n"
     )
     one, other = (HEAD + f'#include "{it}"\n' for it in paths)
     one += "void main0(void) { count = each(12, 1); }\n"

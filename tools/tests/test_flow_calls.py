@@ -108,7 +108,7 @@ def test_the_outer_loop_of_an_insertion_sort(tmp_path: Path, level: str) -> None
         (1, 1, "bne", 9),
         (1, 2, "bne", None),  # the ways add other numbers
         (1, 1, "nop; #", None),  # one way has no test
-        (1, 1, "bltu", None),  # that leaves the loop in the first round, which only some rounds pass
+        (1, 1, "bltu", None),  # it leaves in the first round, and only some rounds pass it
     ],
 )
 def test_ways_of_a_round_with_steps_and_tests_of_their_own(
