@@ -250,7 +250,7 @@ def limits(pages: Pages) -> Iterator[str]:
         ("COMMANDS.md", "at most {}; for `check`", code["MOST_CYCLES"]),
         ("COMMANDS.md", "for `check` at most {}", code["MOST_CHECKED_CYCLES"]),
         ("COMMANDS.md", "decimal digits, at most {}", code["MOST_NUMBER"]),
-        ("COMMANDS.md", "more than {} bytes | shorten", code["MOST_SETUP_BYTES"]),
+        ("COMMANDS.md", "| 1 TooLong | `-` | more than {} bytes", code["MOST_SETUP_BYTES"]),
         ("FORMATS.md", "document of at most {} bytes", code["MOST_SETUP_BYTES"]),
         ("COMMANDS.md", "{} loops or", code["MOST_LOOPS"]),
         ("COMMANDS.md", "{} inputs of a thread", code["MOST_INPUTS"]),

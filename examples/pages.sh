@@ -37,12 +37,8 @@ by_either() {
     case $1 in *fp_budget* | *fp_visits* | *fp_report*) FLEXPRET=$work/script/flexpret as_shown "$1" ;; esac
 }
 
-# A run of some minutes, which bench/views.sh tries in a shorter one.
-readonly LONG='./flexpret-view turns examples/drive.toml --from 3000000000 --to 3000000060'
-
 try_command() {
     case $1 in
-    "$LONG") ;;
     tools/fp_report*)
         if python3 -c 'import jinja2' 2>/dev/null; then
             by_either "$1"

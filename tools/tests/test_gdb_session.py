@@ -274,7 +274,7 @@ def machine(folder: Folder) -> Iterator[Machine]:
 
 
 def test_the_machine_interface_that_editors_use(folder: Folder, machine: Machine) -> None:
-    page = document("DEBUG.md").read_text()
+    page = (TOOLS / "README.md").read_text()
     settings = json.loads(page.split("```json\n")[1].split("```")[0])
     (configuration,) = settings["configurations"]
     assert configuration["miDebuggerPath"].endswith(GDB)
@@ -299,7 +299,7 @@ def test_emacs_stops_and_steps_both_ways(folder: Folder, mode: str) -> None:
     """By the commands that the page shows."""
     if shutil.which("emacs") is None:
         pytest.skip("emacs isn't installed (Debian: emacs-nox)")
-    page = document("DEBUG.md").read_text()
+    page = (TOOLS / "README.md").read_text()
     call = {"gud-gdb": "gdb-multiarch --fullname own/pid.elf", "gdb": "gdb-multiarch -i=mi own/pid.elf"}[mode]
     assert f"`M-x {mode}` with `{call}`" in page and f"(gdb) cd ..\n    (gdb) {CONNECT}\n" in page
     line = line_of(folder, "integral = limited(") - 1
