@@ -240,6 +240,8 @@ class Ci:
     crates: set[str] = field(default_factory=set)
     refused: int = 0
     well: str = ''
+    is_run: bool = True
+    """Whether it could be started."""
 
     def read(self, line: str) -> None:
         if found := re.match(r'rt: (\w+) proved', line):
@@ -257,7 +259,7 @@ def run_ci() -> Ci:
     except OSError as fault:
         print(f"./test: rt ci can't be run ({fault.strerror}): put rt of the kit that README.md names on the PATH, or leave it out by --no-ci",
               flush=True)
-        return Ci(Sum(failed=1))
+        return Ci(Sum(failed=1), is_run=False)
     with child:
         assert child.stdout
         for line in child.stdout:
@@ -287,8 +289,9 @@ def here() -> tuple[str, list[str]]:
     return said_by(['git', 'rev-parse', 'HEAD'], TOP), sorted(line[3:] for line in ran.stdout.splitlines())
 
 
-def write_record(began: tuple[str, list[str]], ci: Ci, done: dict[str, Sum], total: Sum, path: Path = RECORD) -> None:
+def write_record(began: tuple[str, list[str]], ci: Ci, done: dict[str, Sum], total: Sum, path: Path | None = None) -> None:
     """Writes the record of a whole run. One during which the checkout changed leaves none."""
+    path = path or RECORD
     path.unlink(missing_ok=True)
     if here() != began:
         return
@@ -428,7 +431,7 @@ def main() -> int:
             print(f'{part.name}: {found.line()}, {seconds:.0f} seconds', flush=True)
             total.add(found)
             done[part.name] = found
-    if is_whole:
+    if is_whole and ci.is_run:
         write_record(began, ci, done, total)
     for why, count in total.reasons().items():
         print(f'skipped: {count}: {why}')

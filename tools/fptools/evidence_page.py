@@ -1,6 +1,7 @@
 """The page of a folder of evidence: HTML without a script, which needs no network."""
 from __future__ import annotations
 
+import re
 from collections import Counter
 from html import escape
 from typing import Iterable, Sequence
@@ -105,6 +106,8 @@ def warnings(evidence: Evidence) -> list[str]:
         )
     if evidence.gate is None:
         found.append(f"<b>No record of ./test.</b> {text(NO_RECORD)}")
+    elif not re.fullmatch(r"\d+ passed, 0 failed(, \d+ skipped)?", str(evidence.gate.get("last"))):
+        found.append(f"<b>The last ./test failed:</b> {text(str(evidence.gate.get('last')))}.")
     elif evidence.gate.get("commit") != origin.commit:
         found.append("<b>The record of ./test is of another commit</b> than this checkout's.")
     return [f'<p class="box">{it}</p>' for it in found]
@@ -230,19 +233,19 @@ def assumed(evidence: Evidence) -> list[str]:
     lines = [
         f"A cycle takes {setup.period} ns. The slots are {text(' '.join(setup.slots))}.",
         f"{text(quiet)}.",
-        *(thread(it, evidence.results) for it in setup.threads if it.mode == "hard"),
+        *(thread(it, evidence.results, not permits) for it in setup.threads if it.mode == "hard"),
     ]
     return [items(lines), *(budget(it) for it in evidence.results), *stack_notes(evidence)]
 
 
-def thread(it: ThreadTable, results: Sequence[Result]) -> str:
-    """Which promises are of a hard thread."""
+def thread(it: ThreadTable, results: Sequence[Result], is_quiet: bool) -> str:
+    """Which promises are of a hard thread, in a setup whose runs are all quiet or not."""
     budgets = sum(one.budget.thread == it.id for one in results)
-    isolated = (
-        "its trace is isolated" if it.confined else "its trace isn't isolated: it isn't confined"
-    )
+    isolated = "its trace isn't isolated: it isn't confined"
+    if it.confined:
+        isolated = f"its trace is isolated{'' if is_quiet else ' in a quiet run'}"
     inputs = f"; {len(it.inputs)} inputs that are fixed before the run" if it.inputs else ""
-    return f"T{it.id} is hard: its bounds hold ({budgets} budgets here), and {isolated}{inputs}."
+    return f"T{it.id} is hard: its bounds hold (budgets here: {budgets}), and {isolated}{inputs}."
 
 
 def budget(it: Result) -> str:
@@ -270,7 +273,7 @@ def stack_notes(evidence: Evidence) -> list[str]:
 
 
 def checks() -> list[str]:
-    lines = [f"<b>{text(what)}</b> {text(why)}" for what, why in CHECKS]
+    lines = [f"<b>{text(what)}</b> {text(why.rstrip('.'))}." for what, why in CHECKS]
     return ["<p>The numbers are those of docs/ASSUMPTIONS.md.</p>", items(lines, "ol")]
 
 

@@ -9,6 +9,8 @@ import re
 import subprocess
 import sys
 from pathlib import Path
+from types import SimpleNamespace
+from typing import cast
 
 import pytest
 from conftest import TOOLS, TOP, document
@@ -17,8 +19,14 @@ sys.path.insert(0, str(TOP / "bench"))
 
 import gate  # noqa: E402
 from fptools.clauses import Crates, NoClause, clauses_of, digest  # noqa: E402
-from fptools.evidence import comparisons_of, gate_record, promises_of, read_data  # noqa: E402
-from fptools.evidence_page import IS_NOT, NO_RECORD  # noqa: E402
+from fptools.evidence import (
+    Evidence,
+    comparisons_of,
+    gate_record,
+    promises_of,
+    read_data,
+)  # noqa: E402
+from fptools.evidence_page import IS_NOT, NO_RECORD, warnings  # noqa: E402
 from fptools.html.promises import CHECKS  # noqa: E402
 
 PID = (
@@ -110,13 +118,42 @@ def test_the_page_has_answers_assumptions_and_claims(folder: Path) -> None:
         "stated to be assumed, and not checked: no traps",
         "counted in the code: loop 0xf0 step_begin+0x3c",
         "T0: assumes that no trap comes while a trap handler runs",
-        "T0 is hard: its bounds hold (1 budgets here), and its trace is isolated",
+        "T0 is hard: its bounds hold (budgets here: 1), and its trace is isolated",
         "No thread has a permit",
         "32 of 2,000 bytes",
     ):
         assert words in text, words
     document = json.loads((folder / "evidence.json").read_text())
     assert document["results"][0]["bound"] == 352 and document["program"]["proved"] is False
+
+
+def test_a_permit_is_named_where_isolation_and_bounds_are(tmp_path: Path) -> None:
+    setup = tmp_path / "permit.toml"
+    setup.write_text(
+        (TOP / "examples/c/pid.toml")
+        .read_text()
+        .replace("[[thread]]\nid = 2\n", "[[thread]]\nid = 2\npermit = true\n")
+    )
+    assert "permit = true" in setup.read_text()
+    evidence(PID[0], "--setup", setup, *PID[3:], "-o", tmp_path / "made")
+    text = plain((tmp_path / "made/index.html").read_text())
+    assert "T2: a permit. The bounds hold while no instruction writes slots or modes" in text
+    assert "its trace is isolated in a quiet run" in text
+
+
+def test_a_test_that_failed_is_said_first(folder: Path) -> None:
+    made = found_page(folder, {"last": "5 passed, 1 failed", "commit": "x"})
+    assert "The last ./test failed: 5 passed, 1 failed" in made
+    made = found_page(folder, {"last": "5 passed, 0 failed, 2 skipped", "commit": "x"})
+    assert "The last ./test failed" not in made and "is of another commit" in made
+
+
+def found_page(folder: Path, record: dict[str, object]) -> str:
+    """The warnings of a page with another record of ./test."""
+    read = json.loads((folder / "evidence.json").read_text())
+    origin = SimpleNamespace(commit=read["commit"], is_proved=True, changes=(), program="")
+    shown = SimpleNamespace(origin=origin, gate=record)
+    return plain(" ".join(warnings(cast(Evidence, shown))))
 
 
 def test_the_page_quotes_the_clauses_of_the_sources(folder: Path) -> None:

@@ -91,7 +91,9 @@ def test_without_rt_the_other_parts_run(
     monkeypatch.setattr(gate, "PROGRAMS", {"PROGRAM": "program"})
     monkeypatch.setattr(gate, "parts", lambda jobs: [Part("p", [sys.executable, "-c", ""], programs=False)])
     monkeypatch.setattr(sys, "argv", ["test", "--no-install"])
+    monkeypatch.setattr(gate, "RECORD", tmp_path / "record.json")
     assert gate.main() == 1
+    assert not gate.RECORD.exists()
     first, second, *_, last = capsys.readouterr().out.splitlines()
     assert first == (
         "./test: rt ci can't be run (No such file or directory): put rt of the kit that README.md names on the PATH, or leave it out by --no-ci"
