@@ -8,12 +8,14 @@ mod fetch;
 mod memory;
 mod memory_stage;
 mod pipe;
+mod retiring;
 mod stage_register;
 mod stages;
 mod units;
 mod writeback;
 
 pub use pipe::Pipe;
+pub use retiring::Retired;
 pub use pipe_model::{Decoded, Executed, Fetched, Held, Stored, Written};
 pub use stage_register::StageRegister;
 pub use stages::Stages;
