@@ -295,3 +295,30 @@ ran_nothing acts s n end m rows o told at st =
     let Here : ℕ → Type 0 = λ e. Refines s e n m rows in
     let Seen : ℕ → Type 0 = λ e. HasSeen acts s m.at e o o told told in
     (subst Here at st, subst Seen at (seen_begins acts s m.at o told))
+
+-- the same of an equal machine
+pub given_ticks : (s : Start) (c n : ℕ) (rows new : List (Option Row)) (event : Option Event)
+    (a b : Machine) → Ticks s c n rows b new event → a ≡ b → Ticks s c n rows a new event
+given_ticks s c n rows new event a b ticked same =
+    subst (λ (m : Machine). Ticks s c n rows m new event) (sym same) ticked
+
+pub given_at : (a b : Machine) (c : ℕ) → b.at ≡ c → a ≡ b → a.at ≡ c
+given_at a b c is same = ap (λ (m : Machine). m.at) same ∙ is
+
+pub given_seen : {O : Type 0} (acts : Acts O) (s : Start) (c n end : ℕ) (first o : O)
+    (rows : List (Option Row)) (before now : Option (List ℕ)) (a b : Machine) →
+    Refines s end n b rows × HasSeen acts s c end first o before now → a ≡ b →
+    Refines s end n a rows × HasSeen acts s c end first o before now
+given_seen acts s c n end first o rows before now a b done same = (
+  subst (λ (m : Machine). Refines s end n m rows) (sym same) done.0,
+  done.1,
+)
+
+pub given_part : {O : Type 0} (acts : Acts O) (s : Start) (c n : ℕ) (first : O)
+    (rows : List (Option Row)) (before now : Option (List ℕ)) (a b : Machine) →
+    Refines s b.at n b rows × SawInPart acts s c b.at first before now → a ≡ b →
+    Refines s a.at n a rows × SawInPart acts s c a.at first before now
+given_part acts s c n first rows before now a b done same = (
+  subst (λ (m : Machine). Refines s m.at n m rows) (sym same) done.0,
+  subst (λ (m : Machine). SawInPart acts s c m.at first before now) (sym same) done.1,
+)

@@ -1,5 +1,5 @@
 -- An observer that puts the lines of a thread's events puts their text.
-use Rattle.std.proofs.Common.{◌≡◌, ◌≢◌, ℕ, zero, suc, ◌+◌, ◌-◌, ◌≤◌, List, [], ◌∷◌, ◌++◌, Bool}
+use Rattle.std.proofs.Common.{◌≡◌, ◌≢◌, ℕ, zero, suc, ◌+◌, ◌-◌, ◌<◌, ◌≤◌, List, [], ◌∷◌, ◌++◌, Bool}
 use Rattle.std.proofs.Common.{true, false, Option, Some, None, IfSome, nat_lt, refl, ap, sym, subst}
 use Rattle.std.proofs.Common.{◌∙◌, arith, add-zero, append_assoc}
 use Rattle.std.specs.Prelude.{◌==◌, if◌then◌else◌, is_some}
@@ -26,7 +26,7 @@ use Rattle.machine.specs.Observing.{HasSeen, SawInPart, next_with, observer_afte
 use Rattle.machine.specs.Observing.{puts_with, retires}
 use Rattle.machine.specs.ThreadLines.{line_acts, line_with}
 use Rattle.machine.specs.Unseen.{no_acts}
-use Rattle.machine.specs.WorldRelation.{AppendsBeyond, AreLeft, HasRun, Refines, Stopped}
+use Rattle.machine.specs.WorldRelation.{AreLeft, HasRun, Refines, Stopped}
 use Rattle.machine.proofs.RunLemmas.{beyond, text-next, text_goes_on}
 use Rattle.machine.proofs.WordLemmas.{words_on}
 
@@ -58,8 +58,11 @@ event_thread cycle turn x = go (nat_lt turn 8) (nat_lt turn 16)
     go false false = tt
 
 -- the observer after an event of its thread, and of another one
+abbrev pub with_text : ThreadLines → List ℕ → ThreadLines
+with_text o line = record { thread = o.thread; line = line }
+
 abbrev with_line : ThreadLines → Option Event → ThreadLines
-with_line o e = record { thread = o.thread; line = line_with o.line e }
+with_line o e = with_text o (line_with o.line e)
 
 own_next : (o : ThreadLines) (e : Option Event) → IfSome e (λ e. e.thread ≡ o.thread) →
     with_line o e ≡ next_with line_acts o e
@@ -110,9 +113,13 @@ other_turn_next o cycle turn x other =
     other_next o turn (retired_event cycle (turn_of turn x)) (event_thread cycle turn x) other
 
 pub other_turn_puts : (o : ThreadLines) (cycle turn : ℕ) (x : Stored) → turn ≢ o.thread →
-    puts_with line_acts o (retired_event cycle (turn_of turn x)) ≡ []
+    puts_with line_acts o (retired_event cycle (turn_of turn x))
+    ≡ (if turn == o.thread then o.line else [])
 other_turn_puts o cycle turn x other =
+    let tested : false ≡ (turn == o.thread) = sym (let is : (turn == o.thread) ≡ false =
+    grind (arith, nat_tests) in is) in
     other_puts o turn (retired_event cycle (turn_of turn x)) (event_thread cycle turn x) other
+    ∙ ap (λ (b : Bool). if b then o.line else []) tested
 
 -- the thread of the observer stays
 next_thread : (o : ThreadLines) (e : Option Event) → (next_with line_acts o e).thread ≡ o.thread

@@ -1,6 +1,6 @@
 -- What an observer has seen, cycle by cycle.
-use Rattle.std.proofs.Common.{◌≡◌, ℕ, zero, suc, ◌+◌, ◌-◌, ◌<◌, ◌≤◌, List, [], ◌++◌, Option}
-use Rattle.std.proofs.Common.{None, refl, ap, ap₂, sym, subst, ◌∙◌, arith, add-zero}
+use Rattle.std.proofs.Common.{◌≡◌, ℕ, zero, suc, ◌+◌, ◌-◌, ◌<◌, ◌≤◌, List, ◌++◌, Option}
+use Rattle.std.proofs.Common.{None, ap, ap₂, sym, subst, ◌∙◌, arith, add-zero}
 use Rattle.std.specs.Io.KnownBytes.{Appends}
 use Rattle.fp_io.proofs.Fronts.{appends_nothing, appends_more}
 use Rattle.core_model.specs.World.{Start}

@@ -1,21 +1,19 @@
 -- The turn of an issue that retires. If no port is ever removed, none is due.
-use Rattle.std.proofs.Common.{◌≡◌, ◌≢◌, ℕ, zero, suc, ◌+◌, ◌-◌, ◌<◌, nat_lt, List, [], ◌∷◌}
-use Rattle.std.proofs.Common.{get_or, Bool, true, false, arith}
+use Rattle.std.proofs.Common.{◌≡◌, ℕ, zero, suc, ◌+◌, ◌-◌, ◌<◌, nat_lt, List, [], ◌∷◌}
+use Rattle.std.proofs.Common.{get_or, Bool, true, false}
 use Rattle.std.proofs.Common.{Some, None, Option, refl, subst, ap, ◌∙◌, add-one}
-use Rattle.std.specs.Prelude.{◌==◌, is_some, if◌then◌else◌, slice_index_or, slice_set}
+use Rattle.std.specs.Prelude.{is_some, if◌then◌else◌, slice_index_or, slice_set}
 use Rattle.std.specs.List.{list_any}
-use Rattle.std.proofs.lemmas.Bool.Decides.{nat_tests}
 use Rattle.fp_ports.specs.PluggedPorts.{Row}
-use Rattle.rv_exec.specs.declared.outcome.Effect.{Effect}
 use Rattle.rv_exec.specs.declared.outcome.Event.{Event}
 use Rattle.core_model.specs.World.{Start}
 use Rattle.pipe_model.specs.declared.stage_registers.Held.{Held}
 use Rattle.pipe_model.specs.declared.stage_registers.Held.TheVariants.{Bubble, Flushed, Issue}
 use Rattle.pipe_model.specs.declared.stage_registers.Stored.{Stored}
-use Rattle.pipe_model.specs.Stages.{event_at, retired_event, writeback_stage}
+use Rattle.pipe_model.specs.Stages.{retired_event, writeback_stage}
 use Rattle.pipeline_core.specs.Turns.{is_issue, turn_of}
 use Rattle.pipeline_core.specs.StageFacts.{StoredFits}
-use Rattle.pipe_model.specs.Relation.{of_thread, stays_in}
+use Rattle.pipe_model.specs.Relation.{stays_in}
 use Rattle.machine.specs.FieldRelation.{ports_left_in}
 use Rattle.machine.specs.declared.state.Machine.{Machine}
 use Rattle.machine.specs.WorldRelation.{Ticks}

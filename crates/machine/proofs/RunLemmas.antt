@@ -1,5 +1,5 @@
 -- A cycle of the machine, and the text of a run.
-use Rattle.std.proofs.Common.{◌≡◌, ℕ, zero, suc, ◌+◌, ◌-◌, ◌<◌, ◌≤◌, List, [], ◌++◌, get_or}
+use Rattle.std.proofs.Common.{◌≡◌, ℕ, zero, suc, ◌+◌, ◌-◌, ◌<◌, List, [], ◌++◌, get_or}
 use Rattle.std.proofs.Common.{take, length, Bool, true, false, Option, Some, None, arith}
 use Rattle.std.proofs.Common.{refl, ap, sym, subst, ◌∙◌, add-one, add-zero, append_assoc}
 use Rattle.std.specs.Prelude.{if◌then◌else◌}
@@ -27,7 +27,7 @@ use Rattle.machine.proofs.PortLemmas.{unplugs, goes_on, kept-row}
 use Rattle.machine.specs.declared.state.Machine.{Machine}
 use Rattle.machine.specs.WorldRelation.{Refines, RefinesWith, IsLeft, AreLeft, Ticks, TicksWith}
 use Rattle.machine.specs.WorldRelation.{AppendsBeyond, HasRun}
-use Rattle.fp_io.proofs.Fronts.{appends_nothing, appends_more, appends_front, front_after}
+use Rattle.fp_io.proofs.Fronts.{appends_nothing}
 
 left_words : (before after : Option Row) (stays : Bool) →
     port_words after ≡ port_words (if stays then before else None) → IsLeft before after
@@ -164,9 +164,12 @@ pub ticks_given_back : (s : Start) (c n : ℕ) (q : StageRegisters) (m after : M
     (rows new : List (Option Row)) (event : Option Event) → abstract_stages after.pipe ≡ q →
     after ≡ record m { pipe = after.pipe } → TicksWith s c n rows q m new event →
     Ticks s c n rows after new event
-ticks_given_back s c n q m after rows new event is same ticks =
+ticks_given_back s c n q m after rows new event is same ticked =
     let p : StageRegisters = abstract_stages after.pipe in
-    let moved : TicksWith s c n rows p m new event =
-    subst (λ x. TicksWith s c n rows x m new event) (sym is) ticks in
-    let With : Machine → Type 0 = λ x. TicksWith s c n rows p x new event in
-    subst With (sym same) moved
+    let With : Machine → Type 0 = λ x. RefinesWith s (suc c) n p x new in
+    record {
+      refines =
+          subst With (sym same) (subst (λ x. RefinesWith s (suc c) n x m new) (sym is) ticked.refines);
+      event_is = ticked.event_is;
+      left = ticked.left;
+    }

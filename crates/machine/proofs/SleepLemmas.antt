@@ -1,18 +1,15 @@
 -- Cycles in which nobody is awake and nothing is in the pipeline.
 use Rattle.std.proofs.Common.{◌≡◌, ℕ, zero, suc, ◌+◌, ◌-◌, ◌*◌, ◌<◌, ◌≤◌, ◌%◌, inl, inr, Bool}
-use Rattle.std.proofs.Common.{true, false, List, [], ◌∷◌, ◌++◌, get_or, length, map, find}
-use Rattle.std.proofs.Common.{None, Option, refl, ap, sym, subst, ◌∙◌, arith, add-one, add-zero}
+use Rattle.std.proofs.Common.{true, false, List, [], ◌∷◌, get_or, length, map, find}
+use Rattle.std.proofs.Common.{None, Option, refl, ap, sym, subst, arith, add-one}
 use Rattle.std.specs.Prelude.{◌==◌, ◌&&◌, nat_le, is_some}
 use Rattle.std.specs.List.{list_any}
 use Rattle.std.specs.Int.{div_ceil}
-use Rattle.std.specs.Io.KnownBytes.{Appends}
 use Rattle.std.proofs.Math.Nat.{mul-le-mul_left}
 use Rattle.std.proofs.lemmas.Grind.{div_ceil_times}
 use Rattle.std.proofs.lemmas.Bool.{cases_lt}
 use Rattle.std.proofs.lemmas.Bool.Decides.{nat_tests}
-use Rattle.std.proofs.lemmas.List.{append-nil}
 use Rattle.fp_ports.specs.PluggedPorts.{Row}
-use Rattle.rv_exec.specs.declared.outcome.Event.{Event}
 use Rattle.slot_table.specs.Frame.{IsTurn, turn}
 use Rattle.slot_table.specs.declared.frame.Turn.{Turn}
 use Rattle.slot_table.specs.declared.frame.Turn.TheVariants.{Thread, Soft, Nobody}
@@ -23,18 +20,17 @@ use Rattle.slot_scheduler.specs.Picking.{is_awake, pick, pick_in, takes_donated}
 use Rattle.slot_scheduler.specs.declared.picking.Pick.TheVariants as chosen
 use Rattle.slot_scheduler.specs.declared.picking.Sched.{Sched}
 use Rattle.timer_unit.specs.Time.{time}
-use Rattle.trace_print.specs.Text.{text}
-use Rattle.core_model.specs.World.{Start, events, sched_by}
+use Rattle.core_model.specs.World.{Start, sched_by}
 use Rattle.pipe_model.specs.declared.stage_registers.Held.TheVariants as stage
 use Rattle.pipe_model.specs.Stages.{After, StageRegisters, State, Ticked, next_after_fetch}
 use Rattle.pipe_model.specs.Stages.{bank_after, decode_stage, execute_stage, fetch_stage}
 use Rattle.pipe_model.specs.Stages.{finish, memory_stage, ports_stored, next_after_redirect}
 use Rattle.pipe_model.specs.Stages.{retired_event, step, words_stored, writeback_stage}
 use Rattle.pipe_model.specs.Relation.{Begins, RefinesNext, PortsRefine}
-use Rattle.pipe_model.specs.Relation.{Refines as PipelineRefines, event_in, of_thread, turn_at}
-use Rattle.pipe_model.specs.PipelineLaws.{EventsGrow, empty}
+use Rattle.pipe_model.specs.Relation.{Refines as PipelineRefines, event_in, turn_at}
+use Rattle.pipe_model.specs.PipelineLaws.{empty}
 use Rattle.pipe_model.proofs.Keeping.{keeps}
-use Rattle.pipeline_core.specs.Abstraction.{abstract_stages, abstract_state, registers_in}
+use Rattle.pipeline_core.specs.Abstraction.{abstract_state, registers_in}
 use Rattle.pipeline_core.specs.Abstraction.{ticked_with}
 use Rattle.machine.specs.declared.state.Machine.{Machine}
 use Rattle.pipe_model.specs.declared.stage_registers.Held.{Held}

@@ -1,7 +1,7 @@
 //! A run: cycles of a machine, one after another.
 
-ghost use Rattle.std.specs.Prelude.{◌≡◌, ℕ, ◌+◌, ◌-◌, ◌<◌, ◌≤◌, true, List, Option, None};
-ghost use Rattle.std.specs.Prelude.{OnOk, OnErr, IfErr, IfSome, vec_len, length};
+ghost use Rattle.std.specs.Prelude.{◌≡◌, ℕ, ◌+◌, ◌-◌, ◌<◌, ◌≤◌, true, List, Option, None, []};
+ghost use Rattle.std.specs.Prelude.{OnOk, OnErr, IfErr, IfSome, vec_len, length, if◌then◌else◌};
 ghost use Rattle.fp_io.specs.Causes.{Rose};
 ghost use Rattle.timer_unit.specs.Time.{most_cycles};
 ghost use Rattle.fp_ports.specs.PluggedPorts.{Row, rows_of};
@@ -14,7 +14,7 @@ ghost use Rattle.pipeline_core.specs.Abstraction.{abstract_stages, registers_in}
 ghost use Rattle.pipeline_core.specs.Turns.{held, is_issue};
 ghost use Rattle.pipeline_core.specs.StageFacts.{WrittenFits};
 ghost use Rattle.rv_exec.specs.Line.{IsPrintableEvent};
-ghost use Rattle.machine.specs.Observing.{HasSeen, SawInPart};
+ghost use Rattle.machine.specs.Observing.{HasSeen, SawInPart, next_with, puts_with};
 ghost use Rattle.machine.specs.Running.{IsSameRun, KnowsPorts, Runs, Advanced, Stops};
 ghost use Rattle.machine.specs.Running.{turn_of};
 ghost use Rattle.machine.specs.Sleeping.{PassedOverWith};
@@ -33,8 +33,8 @@ use rv_exec::Event;
 struct Last;
 
 /// A machine that runs, with its stage registers as the stages use them. The machine's own `pipe`
-/// is that of an earlier cycle meanwhile. A run isn't `Drop`: only `end` and `finish` end it, and
-/// these give the machine its `pipe` back.
+/// is that of an earlier cycle meanwhile. A run isn't `Drop`: only `finish` ends it, which gives the
+/// machine its `pipe` back.
 pub(crate) struct Run<'a> {
     machine: &'a mut Machine,
     stages: &'a mut Stages,
@@ -87,11 +87,11 @@ impl Run<'_> {
             (rows_of latched word_at ports.new.items) }
         ensures eight { vec_len ports.new ≡ 8 }
     {
-        self.machine.take_if_any(ports, self.loses_ports);
-        let at = self.machine.at;
-        self.stages
-            .tick::<LOOP>(&mut self.machine.units, ports, at);
-        self.machine.at += 1;
+        let machine = &mut *self.machine;
+        let stages = &mut *self.stages;
+        machine.take_if_any(ports, self.loses_ports);
+        stages.tick::<LOOP>(&mut machine.units, ports, machine.at);
+        machine.at += 1;
     }
 
     /// Skips cycles before `end` in which every thread sleeps and the pipeline is empty, in one
@@ -115,9 +115,28 @@ impl Run<'_> {
             × PassedOverWith s self.old.machine.now.at n (registers_in self.new.stages.now v)
             self.new.machine.now ports }
     {
-        if self.stages.f.is_bubble() {
-            self.machine.skip_empty(self.stages, end);
+        let stages = &*self.stages;
+        if stages.f.is_bubble() {
+            let machine = &mut *self.machine;
+            machine.skip_empty(stages, end);
         }
+    }
+
+    /// Has the observer take the turn that retires in the next cycle. Returns whether it has bytes
+    /// to put for it.
+    #[inline(always)]
+    fn observe<O: Observer>(&self, observer: &mut O) -> bool
+        requires { self.now.machine.now.at < most_cycles }
+        ensures state { observer.new ≡ next_with O.acts observer.old (retired_event
+            (self.now.machine.now.at - cycles_to_w) (held self.now.stages.now.m)) }
+        ensures bytes { puts_with O.acts observer.old (retired_event
+            (self.now.machine.now.at - cycles_to_w) (held self.now.stages.now.m))
+            ≡ (if result then O.acts.ready observer.new else []) }
+        ensures issue { result ≡ true → is_issue (held self.now.stages.now.m) ≡ true }
+    {
+        let stages = &*self.stages;
+        let at = self.machine.at;
+        observer.retire(&stages.m, at)
     }
 
     /// The issue in `m`.
@@ -127,7 +146,8 @@ impl Run<'_> {
         ensures stage { writeback_stage (held self.now.stages.now.m) ≡ turn_of result }
         ensures thread { result.thread < 8 }
     {
-        let m = &self.stages.m;
+        let stages = &*self.stages;
+        let m = &stages.m;
         Leaving {
             thread: m.turn,
             pc: m.what.pc,
@@ -174,7 +194,7 @@ impl Run<'_> {
         let mut paused = None;
         let mut stop = end;
         while self.machine.at < stop {
-            let puts = observer.retire(&self.stages.m, self.machine.at);
+            let puts = self.observe(observer);
             if puts {
                 paused = Some(self.leaving());
                 stop = self.machine.at + 1;
@@ -267,12 +287,43 @@ impl Run<'_> {
         ensures eight { vec_len ports.new ≡ 8 }
     {
         while self.machine.at < end {
-            self.run_to_put(end, ports, observer, out)?;
+            if let Err(w) = self.run_to_put(end, ports, observer, out) {
+                return Err(w);
+            }
         }
         Ok(())
     }
 
-    /// Ends the run in this cycle, with this turn in `w`.
+    /// Does the last cycle, and returns the turn in `w` after it. It isn't inlined: a run calls it
+    /// once, and the loop over the other cycles has a copy of the stages.
+    #[inline(never)]
+    fn last(&mut self, ports: &mut Ports) -> Held<Written>
+        requires cycle { self.old.machine.now.at < most_cycles }
+        requires eight { vec_len ports.old ≡ 8 }
+        requires known { KnowsPorts self.old }
+        ensures relation { (s : Start) (n : ℕ) (w : Held Written)
+            → self.old.machine.now.at < n + cycles_to_m
+            → RefinesWith s self.old.machine.now.at n (registers_in self.old.stages.now w)
+            self.old.machine.now (rows_of latched word_at ports.old.items)
+            → TicksWith s self.old.machine.now.at n (rows_of latched word_at ports.old.items)
+            (registers_in self.new.stages.now result) self.new.machine.now
+            (rows_of latched word_at ports.new.items)
+            (retired_event (self.old.machine.now.at - cycles_to_w)
+            (held self.old.stages.now.m)) }
+        ensures fits { WrittenFits result }
+        ensures same { IsSameRun self.old self.new }
+        ensures at { self.new.machine.now.at ≡ self.old.machine.now.at + 1 }
+        ensures words { AreLeft (rows_of latched word_at ports.old.items)
+            (rows_of latched word_at ports.new.items) }
+        ensures eight { vec_len ports.new ≡ 8 }
+    {
+        let stages = &*self.stages;
+        let w = stages.written();
+        self.tick::<Last>(ports);
+        w
+    }
+
+    /// Ends the run, with this turn in `w`: the machine has its `pipe` again.
     fn finish(self, w: Held<Written>)
         requires { WrittenFits w }
         ensures stages { abstract_stages self.exit.0.now.pipe
@@ -286,32 +337,6 @@ impl Run<'_> {
             loses_ports: _,
         } = self;
         machine.take_stages(stages, w);
-    }
-
-    /// Does the last cycle, and ends the run. It isn't inlined: a run calls it once, and the loop
-    /// over the other cycles has a copy of the stages.
-    #[inline(never)]
-    fn end(self, ports: &mut Ports)
-        requires cycle { self.entry.machine.now.at < most_cycles }
-        requires eight { vec_len ports.old ≡ 8 }
-        requires known { KnowsPorts self.entry }
-        ensures relation { (s : Start) (n : ℕ) (w : Held Written)
-            → self.entry.machine.now.at < n + cycles_to_m
-            → RefinesWith s self.entry.machine.now.at n (registers_in self.entry.stages.now w)
-            self.entry.machine.now (rows_of latched word_at ports.old.items)
-            → Ticks s self.entry.machine.now.at n (rows_of latched word_at ports.old.items)
-            self.exit.0.now (rows_of latched word_at ports.new.items)
-            (retired_event (self.entry.machine.now.at - cycles_to_w)
-            (held self.entry.stages.now.m)) }
-        ensures at { self.exit.0.now.at ≡ self.entry.machine.now.at + 1 }
-        ensures words { AreLeft (rows_of latched word_at ports.old.items)
-            (rows_of latched word_at ports.new.items) }
-        ensures eight { vec_len ports.new ≡ 8 }
-    {
-        let mut run = self;
-        let w = run.stages.written();
-        run.tick::<Last>(ports);
-        run.finish(w);
     }
 }
 
@@ -356,12 +381,13 @@ impl Machine {
         let loses_ports = self.loses_ports();
         let mut stages = Stages::of(&self.pipe);
         let event = stages.m.event(self.at);
-        let run = Run {
+        let mut run = Run {
             machine: self,
             stages: &mut stages,
             loses_ports,
         };
-        run.end(ports);
+        let w = run.last(ports);
+        run.finish(w);
         event
     }
 
@@ -416,8 +442,9 @@ impl Machine {
             run.finish(w);
             return Err(PutFailed);
         }
-        let puts = observer.retire(&run.stages.m, run.machine.at);
-        run.end(ports);
+        let puts = run.observe(observer);
+        let w = run.last(ports);
+        run.finish(w);
         if puts {
             return observer.write(out);
         }

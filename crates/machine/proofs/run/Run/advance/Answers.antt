@@ -1,5 +1,5 @@
 -- Each cycle continues those before it. Only the last one may have a put.
-use Rattle.std.proofs.Common.{◌≡◌, ℕ, ◌-◌, ◌<◌, ◌≤◌, None, Option, length, IfSome}
+use Rattle.std.proofs.Common.{◌≡◌, ◌-◌, ◌<◌, ◌≤◌, None, Option, length, IfSome}
 use Rattle.std.proofs.Common.{refl, ap, sym, subst, arith, ◌∙◌}
 use Rattle.std.proofs.lemmas.List.{length-map}
 use Rattle.std.proofs.Math.Nat.{le_refl}
@@ -13,7 +13,6 @@ use Rattle.pipeline_core.specs.Turns.{held}
 use Rattle.machine.specs.declared.run.Leaving.{Leaving}
 use Rattle.machine.specs.declared.state.Machine.{Machine}
 use Rattle.machine.specs.Running.{turn_of}
-use Rattle.machine.proofs.Retiring.{event_issue}
 use Rattle.machine.proofs.RunLemmas.{left_all}
 use Rattle.machine.proofs.AdvanceLemmas.{advanced_as, as_within, begun_no_more, below_in}
 use Rattle.machine.proofs.AdvanceLemmas.{goes_forth, knows_still, never, paused_as, runs_on}
@@ -41,7 +40,7 @@ loop-self-init g c = record {
 }
 
 pub leaving-requires : goal.leaving-requires
-leaving-requires g c = event_issue _ _ (c.retire-puts.ensures.event c.if-puts.true)
+leaving-requires g c = c.observe-puts.ensures.issue c.if-puts.true
 
 pub loop-self-preserved : goal.loop-self-preserved
 loop-self-preserved g c =
@@ -87,17 +86,17 @@ loop-self-preserved g c =
             words = words_on _ _ _ inv.words cycle.words;
             advanced =
                 λ s from n first told taken within run. advanced_as g.O.Observer.acts s from n
-                first c.skip_sleep.new.self.stages.now later _ c.retire-puts.new.self told taken _ _
+                first c.skip_sleep.new.self.stages.now later _ c.observe-puts.new.observer told taken _ _
                 (sym w.paused-is)
                 (paused_as stays stayed
                 (runs_to_put g.O.Observer.acts s from n first c.loop-self.self.stages.now
                 (registers_in c.tick.new.self.stages.now written) m after _ _
-                c.loop-self.observer c.retire-puts.new.self event told taken
+                c.loop-self.observer c.observe-puts.new.observer event told taken
                 (advanced_as g.O.Observer.acts s from n first c.loop-self.self.stages.now m _
                 c.loop-self.observer told taken _ _ quiet
                 (inv.advanced s from n first told taken within run))
                 (λ x. cycle.relation s n x (below_in m.at _ _ below within)) cycle.at
-                c.retire-puts.ensures.state (rw w.if-puts.true at c.retire-puts.ensures.bytes)));
+                c.observe-puts.ensures.state (rw w.if-puts.true at c.observe-puts.ensures.bytes)));
           })
       | else-puts w ↦ record {
         within = skip.end;
@@ -115,19 +114,19 @@ loop-self-preserved g c =
         words = words_on _ _ _ inv.words cycle.words;
         advanced =
             λ s from n first told taken within run. advanced_as g.O.Observer.acts s from n
-            first c.skip_sleep.new.self.stages.now later _ c.retire-puts.new.self told taken _ _
+            first c.skip_sleep.new.self.stages.now later _ c.observe-puts.new.observer told taken _ _
             (sym (w.paused-is ∙ quiet))
             (runs_pass g.O.Observer.acts s from n first c.tick.new.self.stages.now
-            c.skip_sleep.new.self.stages.now after later _ c.retire-puts.new.self told taken skip.on
+            c.skip_sleep.new.self.stages.now after later _ c.observe-puts.new.observer told taken skip.on
             (λ x. skip.passed s n _ x (as_within _ _ _ (w.stop-is ∙ whole) within)
             (length-map c.tick.new.ports.items _ ∙ eight))
             (runs_on g.O.Observer.acts s from n first c.loop-self.self.stages.now
             c.tick.new.self.stages.now written m after _ _ c.loop-self.observer
-            c.retire-puts.new.self event told taken
+            c.observe-puts.new.observer event told taken
             (advanced_as g.O.Observer.acts s from n first c.loop-self.self.stages.now m _
                 c.loop-self.observer told taken _ _ quiet
                 (inv.advanced s from n first told taken within run))
             (λ x. cycle.relation s n x (below_in m.at _ _ below within)) cycle.at
-            c.retire-puts.ensures.state (rw w.if-puts.false at c.retire-puts.ensures.bytes)));
+            c.observe-puts.ensures.state (rw w.if-puts.false at c.observe-puts.ensures.bytes)));
       }
     ]

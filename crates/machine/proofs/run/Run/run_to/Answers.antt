@@ -1,7 +1,5 @@
 -- A run continues from put to put.
-use Rattle.std.proofs.Common.{◌≡◌, ℕ, ◌≤◌, arith, refl}
 use Rattle.std.proofs.Math.Nat.{le_refl, le_trans}
-use Rattle.std.proofs.lemmas.Result.{err_from_is_err_and}
 use Rattle.machine.proofs.AdvanceLemmas.{knows_still, same_begins, same_run}
 use Rattle.machine.proofs.RunLemmas.{left_all}
 use Rattle.machine.proofs.WordLemmas.{words_on}
@@ -31,14 +29,11 @@ loop-self-preserved g c =
       known = knows_still ahead.same inv.known;
       runs =
           λ s from n first told within run.
-          c.in_ok-run_to_put.ensures.ok s from n first told within
+          c.in_default.ensures.ok s from n first told within
           (inv.runs s from n first told within run);
     }
 
-pub returns-in_err-run_to_put-clause-err : goal.returns-in_err-run_to_put-clause-err
-returns-in_err-run_to_put-clause-err g c =
-    let inv = c.loop-self.invariant in
-    let p = err_from_is_err_and c.from_residual.result c.from_residual.ensures.1 in
-    rw p.1 (λ s from n first told within run.
-    c.in_err-run_to_put.ensures.err s from n first told within
-    (inv.runs s from n first told within run))
+pub returns-in-Err-clause-err : goal.returns-in-Err-clause-err
+returns-in-Err-clause-err g c s from n first told within run =
+    c.in-Err.ensures.err s from n first told within
+    (c.loop-self.invariant.runs s from n first told within run)

@@ -1,5 +1,5 @@
 -- A run puts the lines of a thread's events.
-use Rattle.std.proofs.Common.{◌≡◌, ℕ, ◌+◌, ◌≤◌, arith}
+use Rattle.std.proofs.Common.{ℕ, ◌+◌, ◌≤◌, arith}
 use Rattle.std.proofs.Math.Nat.{le_trans}
 use Rattle.pipe_model.proofs.Events.{grows}
 use Rattle.machine.proofs.LineObserving.{lines_run, lines_stop}

@@ -4,10 +4,10 @@ use Rattle.machine.proofs.state.Machine.run_unseen.Goals as goal
 
 pub returns-clause-relation : goal.returns-clause-relation
 returns-clause-relation g c s n within st =
-    (never_fails c.run_with-_done.result c.run_with-_done.ensures.failed
-    c.run_with-_done.ensures.ok s n within st).0
+    (never_fails c.run_with-done.result c.run_with-done.ensures.failed
+    c.run_with-done.ensures.ok s n within st).0
 
 pub returns-clause-at : goal.returns-clause-at
 returns-clause-at g c =
-    never_fails c.run_with-_done.result c.run_with-_done.ensures.failed
-    c.run_with-_done.ensures.cycles
+    never_fails c.run_with-done.result c.run_with-done.ensures.failed
+    c.run_with-done.ensures.cycles
