@@ -222,12 +222,7 @@ pub fn execute_frequent<LOOP>(
 /// [`execute_frequent`].
 #[tactic(auto, unfolding(crate::proofs::Opened::whole), using(crate::proofs::Zero::aligned_zero))]
 #[inline(always)]
-pub fn execute_in<LOOP>(
-    hart: &mut Hart<'_>,
-    at: PcWord,
-    expired: bool,
-    s: Sources,
-) -> ExecResult
+pub fn execute_in<LOOP>(hart: &mut Hart<'_>, at: PcWord, expired: bool, s: Sources) -> ExecResult
     requires { at.pc % 4 ≡ 0 }
     ensures holds { Holds hart.old hart.new }
     ensures refines { Refines hart.old hart.new result (execute_in (environment_of hart.old) at.pc

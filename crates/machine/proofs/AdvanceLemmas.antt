@@ -232,8 +232,7 @@ pub ran_to_put : {O : Type 0} (acts : Acts O) (s : Start) (c n end : ℕ) (first
     Refines s end n m rows × HasSeen acts s c end first o before now
 ran_to_put acts s c n end first m rows o before between now at pause put =
     let Here : ℕ → Type 0 = λ e. Refines s e n m rows in
-    let Seen : ℕ → Type 0 = λ e. HasSeen acts s c e first o before now in
-    (
+    let Seen : ℕ → Type 0 = λ e. HasSeen acts s c e first o before now in (
       subst Here at pause.refines,
       subst Seen at (put_seen acts s c n first (abstract_stages m.pipe) m rows o before between now
           pause put),
@@ -265,8 +264,7 @@ ran_quietly acts s c n end first stages m after rows new o later event before no
     let Seen : ℕ → Type 0 = λ e. HasSeen acts s c e first later before now in
     let nothing : puts_with acts o (retires s m.at) ≡ [] =
     ap (λ e. puts_with acts o e) (sym ticked.event_is) ∙ none in
-    let there : suc m.at ≡ end = omega (arith, at, here) in
-    (
+    let there : suc m.at ≡ end = omega (arith, at, here) in (
       subst Here there ticked.refines,
       subst Seen there (seen_on acts s c m.at first o later before now now run.seen
           (is ∙ ap (λ e. next_with acts o e) ticked.event_is)

@@ -15,8 +15,8 @@ mod units;
 mod writeback;
 
 pub use pipe::Pipe;
-pub use retiring::Retired;
 pub use pipe_model::{Decoded, Executed, Fetched, Held, Stored, Written};
+pub use retiring::Retired;
 pub use stage_register::StageRegister;
 pub use stages::Stages;
 pub use units::Units;

@@ -214,12 +214,7 @@ impl Stages {
     /// E. Returns whether turns of a thread are flushed; if so, `redirect` has the thread and the
     /// pc at which it continues.
     #[inline(always)]
-    fn execute<LOOP>(
-        &mut self,
-        units: &mut Units,
-        cycle: u64,
-        redirect: &mut Redirect,
-    ) -> bool
+    fn execute<LOOP>(&mut self, units: &mut Units, cycle: u64, redirect: &mut Redirect) -> bool
         requires cycle { cycle < most_cycles }
         ensures e { held self.new.e ≡ (executed_by units.old cycle (held self.old.d)).e }
         ensures redirect { (executed_by units.old cycle (held self.old.d)).redirect

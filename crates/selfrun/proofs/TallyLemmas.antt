@@ -245,3 +245,8 @@ own_run number n setup image rows m ts same_setup same_image same_rows refines r
     ran (own_start number n) (subst A (sym same_rows) (subst B (beside_none number n)
     (subst C same_image (subst D same_setup (refines no_ports n refl)))))
     ∙ own_tallies_are number n is
+
+-- a machine at its start refines its current cycle
+pub at_start : (s : Start) (n : ℕ) (m : Machine) (rows : List (Option Row)) → m.at ≡ 0 →
+    Refines s 0 n m rows → Refines s m.at n m rows
+at_start s n m rows start st = subst (λ a. Refines s a n m rows) (sym start) st

@@ -124,8 +124,8 @@ loop-self-preserved g c =
             c.tick.new.self.stages.now written m after _ _ c.loop-self.observer
             c.observe-puts.new.observer event told taken
             (advanced_as g.O.Observer.acts s from n first c.loop-self.self.stages.now m _
-                c.loop-self.observer told taken _ _ quiet
-                (inv.advanced s from n first told taken within run))
+            c.loop-self.observer told taken _ _ quiet
+            (inv.advanced s from n first told taken within run))
             (λ x. cycle.relation s n x (below_in m.at _ _ below within)) cycle.at
             c.observe-puts.ensures.state (rw w.if-puts.false at c.observe-puts.ensures.bytes)));
       }
