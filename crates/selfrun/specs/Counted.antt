@@ -1,5 +1,5 @@
 -- The count of a thread's events, as an observer keeps it.
-use Rattle.std.specs.Prelude.{ℕ, ◌+◌, ◌%◌, ◌^◌, List, [], slice_set}
+use Rattle.std.specs.Prelude.{◌+◌, ◌%◌, ◌^◌, [], slice_set}
 use Rattle.rv_exec.specs.declared.outcome.Event.{Event}
 use Rattle.trace_print.specs.Text.{line_text}
 use Rattle.machine.specs.Observing.{Acts}

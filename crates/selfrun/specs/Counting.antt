@@ -1,5 +1,5 @@
 -- How the tallies of the threads grow as events retire.
-use Rattle.std.specs.Prelude.{◌≡◌, ℕ, ◌+◌, ◌≤◌, List, slice_set, map, Option, Some, None}
+use Rattle.std.specs.Prelude.{ℕ, ◌+◌, ◌≤◌, List, slice_set, map, Option, Some, None}
 use Rattle.fp_setup.specs.SetupOfTables.{the_threads}
 use Rattle.rv_exec.specs.declared.outcome.Event.{Event}
 use Rattle.trace_print.specs.Text.{line_text}

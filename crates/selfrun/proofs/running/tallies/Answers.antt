@@ -1,4 +1,4 @@
-use Rattle.std.proofs.Common.{◌≡◌, ◌+◌, ◌≤◌, arith, refl}
+use Rattle.std.proofs.Common.{◌+◌, ◌≤◌, arith, refl}
 use Rattle.pipe_model.proofs.Events.{grows}
 use Rattle.machine.proofs.OnResults.{never_fails}
 use Rattle.selfrun.proofs.TallyLemmas.{at_start, count_ends}
