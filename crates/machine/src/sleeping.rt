@@ -9,12 +9,11 @@ ghost use Rattle.timer_unit.specs.Time.{time};
 ghost use Rattle.core_model.specs.Cycles.{cycles_to_m};
 ghost use Rattle.core_model.specs.World.{Start};
 ghost use Rattle.pipe_model.specs.PipelineLaws.{empty};
-ghost use Rattle.pipeline_core.specs.Abstraction.{abstract_stages};
 ghost use Rattle.pipeline_core.specs.Abstraction.{registers_in};
 ghost use Rattle.pipe_model.specs.declared.stage_registers.Held.{Held};
 ghost use Rattle.pipe_model.specs.declared.stage_registers.Written.{Written};
-ghost use Rattle.machine.specs.Sleeping.{NobodyAwake, PassedOver, PassedOverWith, SleepsOn};
-ghost use Rattle.machine.specs.WorldRelation.{Refines, RefinesWith};
+ghost use Rattle.machine.specs.Sleeping.{NobodyAwake, PassedOverWith, SleepsOn};
+ghost use Rattle.machine.specs.WorldRelation.{RefinesWith};
 
 use crate::state::Machine;
 use pipeline_core::Stages;

@@ -1,6 +1,6 @@
 //! The lines of a thread.
 
-ghost use Rattle.std.specs.Prelude.{◌≡◌, ◌-◌, ◌<◌, ◌==◌, [], true, is_some, if◌then◌else◌};
+ghost use Rattle.std.specs.Prelude.{◌≡◌, ◌-◌, ◌<◌, is_some};
 ghost use Rattle.timer_unit.specs.Time.{most_cycles};
 ghost use Rattle.core_model.specs.Cycles.{cycles_to_w};
 ghost use Rattle.pipe_model.specs.Stages.{retired_event};
