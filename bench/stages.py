@@ -55,7 +55,6 @@ class Part(enum.StrEnum):
 
 RULES: Sequence[tuple[Part, str]] = (
     (Part.LINES, r'^trace_print::|^fp_io::|::Machine::set_(own_)?line'),
-    (Part.STEP, r'^pipeline_core::writeback::retire'),
     (Part.WRITE_BACK, r'^pipeline_core::writeback::'),
     (Part.LATE, r'^pipeline_core::memory_stage::late_effect'),
     (Part.MEMORY, r'^pipeline_core::memory_stage::'),
@@ -69,8 +68,8 @@ RULES: Sequence[tuple[Part, str]] = (
     (Part.EXECUTE, r'^(pipeline_core::execute|hart_exec)::'),
     (Part.FETCH, r'^pipeline_core::fetch::'),
     (Part.PICK, r'^slot_scheduler::picking::|::Clock::now'),
-    (Part.STEP, r'^pipeline_core::(pipe|stages|stage_register)::'),
-    (Part.LOOP, r'^machine::(state::Machine::(?!load|dump)|sleeping::)'),
+    (Part.STEP, r'^pipeline_core::(pipe|retiring|stages|stage_register)::'),
+    (Part.LOOP, r'^machine::(state::Machine::(?!load|dump)|run::|sleeping::|thread_lines::|unseen::)'),
 )
 """The part of an instruction is that of the first rule whose pattern is in the name of a function around it. So a part stands
 before those that contain it. Const arguments are in the names: `::<=1` is a rare instruction's execution."""

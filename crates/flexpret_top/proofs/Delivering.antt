@@ -42,12 +42,13 @@ dump-err r first rows m before after (Err e) passes puts =
     (sym runs.text_is) (puts runs.start r.cycles r.cycles (passes runs.start runs.refines).refines))
 
 -- a run without output has done its cycles
-pub gone-after : (s : Start) (k n : ℕ) (first : List (Option Row)) (m : Machine)
-    (rows : List (Option Row)) → k ≡ n → HasRun s k n 0 first m rows None None →
-    Gone s n first m rows
-gone-after s k n first m rows end run =
-    let Run : ℕ → Type 0 = λ c. HasRun s c n 0 first m rows None None in
-    let whole = subst Run end run in record { refines = whole.refines; left = whole.left }
+pub gone-after : (s : Start) (n : ℕ) (first : List (Option Row)) (m later : Machine)
+    (rows : List (Option Row)) → m.at ≡ 0 → Refines s 0 n m first →
+    (Refines s m.at n m first → Refines s n n later rows) → AreLeft first rows →
+    Gone s n first later rows
+gone-after s n first m later rows start st goes left =
+    let At : ℕ → Type 0 = λ c. Refines s c n m first in
+    record { refines = goes (subst At (sym start) st); left = left }
 
 -- the ports after the run
 pub ports-gone : (r : Ready) (first rows : List (Option Row)) (m : Machine) →

@@ -37,10 +37,7 @@ fn go(machine: &mut Machine, cycles: u64, ports: &mut Ports)
         (rows_of latched word_at ports.new.items) }
     ensures eight { vec_len ports.new ≡ 8 }
 {
-    while machine.at < cycles {
-        let _event = machine.tick(ports);
-        machine.skip_sleep(cycles);
-    }
+    machine.run_unseen(cycles, ports);
 }
 
 /// Runs a machine, and writes the lines of a thread's events.

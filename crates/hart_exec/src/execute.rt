@@ -153,10 +153,10 @@ fn expire(hart: &mut Hart<'_>, at: PcWord) -> ExecResult
 /// fetch that is refused. Neither shows a word. Without `RARE` it returns None and changes nothing
 /// for both, for traps, and for instructions on control registers, traps or time.
 ///
-/// Its code is the same for each `LOOP`. Each number makes a copy, as [`execute_frequent`] says.
+/// Its code is the same for each `LOOP`. Each type makes a copy, as [`execute_frequent`] says.
 #[tactic(auto, unfolding(crate::proofs::Opened::whole), using(crate::proofs::Zero::aligned_zero))]
 #[inline(always)]
-fn execute_some<const RARE: bool, const LOOP: u8>(
+fn execute_some<const RARE: bool, LOOP>(
     hart: &mut Hart<'_>,
     at: PcWord,
     expired: bool,
@@ -191,11 +191,9 @@ fn execute_some<const RARE: bool, const LOOP: u8>(
 /// changes nothing for an expiry, a refused fetch, a trap, and an instruction on control registers,
 /// traps or time. So a caller can execute these out of line.
 ///
-/// `LOOP` has no effect on a result. Each number makes a separate copy of the code. The compiler
-/// inlines a copy that has one caller, so each loop over cycles has a number that no other has.
-/// These are taken: 0 by a single cycle of the pipeline, 1 by a run of the machine, 2 by the
-/// machine's own run, 3 by a run of one thread, and 4 by the last cycle of a run of the machine.
-pub fn execute_frequent<const LOOP: u8>(
+/// `LOOP` has no effect on a result. Each type makes a separate copy of the code. The compiler
+/// inlines a copy that has one caller, so each loop over cycles gives a type of its own.
+pub fn execute_frequent<LOOP>(
     hart: &mut Hart<'_>,
     at: PcWord,
     expired: bool,
@@ -220,16 +218,11 @@ pub fn execute_frequent<const LOOP: u8>(
 }
 
 /// Executes the instruction at a pc, but for a late value. An expiry comes before all else; then a
-/// fetch that is refused. Neither shows a word. `LOOP` is the number of the caller's loop, as in
+/// fetch that is refused. Neither shows a word. `LOOP` is the type of the caller's loop, as in
 /// [`execute_frequent`].
 #[tactic(auto, unfolding(crate::proofs::Opened::whole), using(crate::proofs::Zero::aligned_zero))]
 #[inline(always)]
-pub fn execute_in<const LOOP: u8>(
-    hart: &mut Hart<'_>,
-    at: PcWord,
-    expired: bool,
-    s: Sources,
-) -> ExecResult
+pub fn execute_in<LOOP>(hart: &mut Hart<'_>, at: PcWord, expired: bool, s: Sources) -> ExecResult
     requires { at.pc % 4 ≡ 0 }
     ensures holds { Holds hart.old hart.new }
     ensures refines { Refines hart.old hart.new result (execute_in (environment_of hart.old) at.pc

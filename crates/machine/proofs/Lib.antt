@@ -10,6 +10,8 @@ pub mod FedLemmas
 pub mod WordLemmas
 pub mod Retiring
 pub mod SleepLemmas
+pub mod ObservingLemmas
 pub mod AdvanceLemmas
+pub mod LineObserving
 mod LineLemmas
 pub mod OnResults

@@ -1,6 +1,8 @@
 -- What is known of a result, and more that follows from it.
 use Rattle.std.proofs.Common.{◌≡◌, Result, Ok, Err, OnOk, OnErr, Option, Some, None, true, refl}
+use Rattle.std.proofs.Common.{arith}
 use Rattle.std.specs.Prelude.{is_some}
+use Rattle.fp_io.specs.Causes.{Rose}
 
 pub map_ok : {T E : Type 0} → (r : Result T E) (P Q : Type 0) → OnOk r P → (P → Q) → OnOk r Q
 map_ok (Ok x) P Q h f = f h
@@ -10,6 +12,7 @@ pub map_err : {T E : Type 0} → (r : Result T E) (P Q : Type 0) → OnErr r P �
 map_err (Ok x) P Q h f = h
 map_err (Err e) P Q h f = f h
 
-pub some_of : {A : Type 0} (o : Option A) → is_some o ≡ true → (x : A) × (o ≡ Some x)
-some_of (Some x) h = (x, refl)
-some_of None h = cc
+-- where no fault can be counted, a result is no error
+pub never_fails : {T E : Type 0} → (r : Result T E) {P : Type 0} → OnErr r (Rose 0 0) → OnOk r P → P
+never_fails (Ok x) failed holds = holds
+never_fails (Err e) failed holds = absurd (omega (arith, failed))

@@ -1,63 +1,53 @@
--- Turns of other threads write nothing. If no port is ever removed, none is due.
-use Rattle.std.proofs.Common.{◌≡◌, ◌≢◌, ℕ, zero, suc, ◌+◌, ◌-◌, ◌<◌, nat_lt, List, [], ◌∷◌}
-use Rattle.std.proofs.Common.{get_or, Bool, true, false, arith}
+-- The turn of an issue that retires. If no port is ever removed, none is due.
+use Rattle.std.proofs.Common.{◌≡◌, ℕ, zero, suc, ◌+◌, ◌-◌, ◌<◌, nat_lt, List, [], ◌∷◌}
+use Rattle.std.proofs.Common.{get_or, Bool, true, false}
 use Rattle.std.proofs.Common.{Some, None, Option, refl, subst, ap, ◌∙◌, add-one}
-use Rattle.std.specs.Prelude.{◌==◌, is_some, if◌then◌else◌, slice_index_or, slice_set}
+use Rattle.std.specs.Prelude.{is_some, if◌then◌else◌, slice_index_or, slice_set}
 use Rattle.std.specs.List.{list_any}
-use Rattle.std.proofs.lemmas.Bool.Decides.{nat_tests}
 use Rattle.fp_ports.specs.PluggedPorts.{Row}
-use Rattle.rv_exec.specs.declared.outcome.Effect.{Effect}
 use Rattle.rv_exec.specs.declared.outcome.Event.{Event}
 use Rattle.core_model.specs.World.{Start}
 use Rattle.pipe_model.specs.declared.stage_registers.Held.{Held}
 use Rattle.pipe_model.specs.declared.stage_registers.Held.TheVariants.{Bubble, Flushed, Issue}
 use Rattle.pipe_model.specs.declared.stage_registers.Stored.{Stored}
-use Rattle.pipe_model.specs.Stages.{event_at, retired_event, writeback_stage}
+use Rattle.pipe_model.specs.Stages.{retired_event, writeback_stage}
 use Rattle.pipeline_core.specs.Turns.{is_issue, turn_of}
 use Rattle.pipeline_core.specs.StageFacts.{StoredFits}
-use Rattle.pipe_model.specs.Relation.{of_thread, stays_in}
+use Rattle.pipe_model.specs.Relation.{stays_in}
 use Rattle.machine.specs.FieldRelation.{ports_left_in}
 use Rattle.machine.specs.declared.state.Machine.{Machine}
 use Rattle.machine.specs.WorldRelation.{Ticks}
 
-pub others : (i cycle k pc word : ℕ) (effect : Option Effect) → (k == i) ≡ false →
-    of_thread i (event_at cycle k pc word effect) ≡ []
-others i cycle k pc word None other = refl
-others i cycle k pc word (Some effect) other = rw other refl
-
--- nor does a turn of another thread, or one that isn't an issue
-pub other_turn : (i cycle turn : ℕ) (x : Stored) → turn ≢ i →
-    of_thread i (retired_event cycle (turn_of turn x)) ≡ []
-unfolding turn_of retired_event
-other_turn i cycle turn x other = go (nat_lt turn 8) (nat_lt turn 16)
-  where
-    tested : (turn == i) ≡ false
-    tested = grind (arith, nat_tests)
-
-    go : (a b : Bool) → of_thread i (retired_event cycle
-        (if a then Issue turn x else if b then Flushed (turn - 8) else Bubble)) ≡ []
-    go true b = others i cycle turn x.pc x.word x.effect tested
-    go false true = refl
-    go false false = refl
-
-pub no_turn : (i cycle : ℕ) (h : Held Stored) → is_issue h ≡ false →
-    of_thread i (retired_event cycle h) ≡ []
+-- a turn with an event is an issue
+pub event_issue : (cycle : ℕ) (h : Held Stored) → is_some (retired_event cycle h) ≡ true →
+    is_issue h ≡ true
 unfolding retired_event
-no_turn i cycle Bubble h = refl
-no_turn i cycle (Flushed k) h = refl
-no_turn i cycle (Issue k x) h = cc
+event_issue cycle Bubble h = cc
+event_issue cycle (Flushed k) h = cc
+event_issue cycle (Issue k x) h = refl
+
+-- the turn of an issue
+pub issue_is : (turn : ℕ) (x : Stored) → is_issue (turn_of turn x) ≡ true →
+    turn_of turn x ≡ Issue turn x
+unfolding turn_of
+issue_is turn x h = go (nat_lt turn 8) (nat_lt turn 16) h
+  where
+    go : (a b : Bool) →
+        is_issue (if a then Issue turn x else if b then Flushed (turn - 8) else Bubble) ≡ true →
+        (if a then Issue turn x else if b then Flushed (turn - 8) else Bubble) ≡ Issue turn x
+    go true b h = refl
+    go false true h = cc
+    go false false h = cc
 
 -- the turn in W
-pub issue_written : (i turn : ℕ) (x : Stored) (h : Held Stored) → h ≡ Issue turn x → turn ≡ i →
-    writeback_stage h ≡ Issue i (record { pc = x.pc; word = x.word })
+pub issue_written : (turn : ℕ) (x : Stored) → is_issue (turn_of turn x) ≡ true →
+    writeback_stage (turn_of turn x) ≡ Issue turn (record { pc = x.pc; word = x.word })
 unfolding writeback_stage
-issue_written i turn x h is same = rw (is, same) refl
+issue_written turn x h = rw (issue_is turn x h) refl
 
-pub issue_below : (i turn : ℕ) (x : Stored) (h : Held Stored) → h ≡ Issue turn x → turn ≡ i →
-    StoredFits h → i < 8
-issue_below i turn x h is same fits =
-    let below : turn < 8 = (rw is at fits).0 in
-    omega (arith, below, same)
+pub issue_below : (turn : ℕ) (x : Stored) → is_issue (turn_of turn x) ≡ true →
+    StoredFits (turn_of turn x) → turn < 8
+issue_below turn x h fits = (rw (issue_is turn x h) at fits).0
 
 none_at : (unplugs : List (Option ℕ)) (k : ℕ) → list_any is_some unplugs ≡ false →
     get_or unplugs k None ≡ None

@@ -1,5 +1,5 @@
 -- A cycle of the machine, and the text of a run.
-use Rattle.std.proofs.Common.{◌≡◌, ℕ, zero, suc, ◌+◌, ◌-◌, ◌<◌, ◌≤◌, List, [], ◌++◌, get_or}
+use Rattle.std.proofs.Common.{◌≡◌, ℕ, zero, suc, ◌+◌, ◌-◌, ◌<◌, List, [], ◌++◌, get_or}
 use Rattle.std.proofs.Common.{take, length, Bool, true, false, Option, Some, None, arith}
 use Rattle.std.proofs.Common.{refl, ap, sym, subst, ◌∙◌, add-one, add-zero, append_assoc}
 use Rattle.std.specs.Prelude.{if◌then◌else◌}
@@ -19,18 +19,15 @@ use Rattle.pipe_model.specs.PipelineLaws.{EventsGrow}
 use Rattle.pipeline_core.specs.Abstraction.{abstract_stages, abstract_state, registers_in}
 use Rattle.pipeline_core.specs.Abstraction.{ticked_with}
 use Rattle.pipe_model.specs.declared.stage_registers.Held.{Held}
-use Rattle.pipe_model.specs.declared.stage_registers.Held.TheVariants.{Issue}
 use Rattle.pipe_model.specs.declared.stage_registers.Written.{Written}
-use Rattle.pipeline_core.specs.declared.pipe.Pipe.{Pipe}
 use Rattle.pipeline_core.specs.declared.stages.Stages.{Stages}
-use Rattle.machine.specs.Advancing.{Advanced, Runs}
 use Rattle.machine.specs.FieldRelation.{FieldsRefine, ports_left_in}
 use Rattle.machine.specs.FieldLaws.{Unplugged, with_ports_left}
 use Rattle.machine.proofs.PortLemmas.{unplugs, goes_on, kept-row}
 use Rattle.machine.specs.declared.state.Machine.{Machine}
-use Rattle.machine.specs.WorldRelation.{Refines, RefinesWith, IsLeft, AreLeft, TicksWith}
-use Rattle.machine.specs.WorldRelation.{AppendsBeyond, HasRun, HasRunWith, Stopped}
-use Rattle.fp_io.proofs.Fronts.{appends_nothing, appends_more, appends_front, front_after}
+use Rattle.machine.specs.WorldRelation.{Refines, RefinesWith, IsLeft, AreLeft, Ticks, TicksWith}
+use Rattle.machine.specs.WorldRelation.{AppendsBeyond, HasRun}
+use Rattle.fp_io.proofs.Fronts.{appends_nothing}
 
 left_words : (before after : Option Row) (stays : Bool) →
     port_words after ≡ port_words (if stays then before else None) → IsLeft before after
@@ -120,7 +117,7 @@ text-next grows s i c event e =
     ∙ ap (λ x. text (events s i c) ++ text (of_thread i x)) (sym e)
 
 -- later cycles don't change the text of earlier ones
-text_goes_on : EventsGrow → (s : Start) (i c more : ℕ) →
+pub text_goes_on : EventsGrow → (s : Start) (i c more : ℕ) →
     (rest : List ℕ) × (text (events s i (c + more)) ≡ text (events s i c) ++ rest)
 text_goes_on grows s i c zero = ([], rw (add-zero c) (sym (append-nil (text (events s i c)))))
 text_goes_on grows s i c (suc more) =
@@ -143,75 +140,6 @@ run_begins s n thread m rows told st =
       left = left_all rows;
     }
 
--- one more cycle of a run
-pub run_on : EventsGrow → (s : Start) (k n thread : ℕ) {p q : StageRegisters}
-    (first : List (Option Row)) (m after : Machine) (rows new : List (Option Row))
-    (before between now : Option (List ℕ)) (event : Option Event) →
-    HasRunWith s k n thread first p m rows before between → m.at ≡ k →
-    (RefinesWith s m.at n p m rows → TicksWith s m.at n rows q after new event) →
-    Appends between now (text (of_thread thread event)) →
-    HasRunWith s (k + 1) n thread first q after new before now
-run_on grows s k n thread {p} {q} first m after rows new before between now event run at tick put =
-    let At : ℕ → Type 0 = λ c. RefinesWith s c n p m rows in
-    let After : ℕ → Type 0 = λ c. TicksWith s c n rows q after new event in
-    let ticked : TicksWith s k n rows q after new event =
-    subst After at (tick (subst At (sym at) run.refines)) in
-    let Told : List ℕ → Type 0 = λ x. Appends before now x in
-    let done : HasRunWith s (suc k) n thread first q after new before now = record {
-      put =
-          subst Told (sym (text-next grows s thread k event ticked.event_is)) (appends_more before
-          between now (text (events s thread k)) (text (of_thread thread event)) run.put put);
-      refines = ticked.refines;
-      left =
-          λ i below. left_more (row_at first i) (row_at rows i) (row_at new i) (run.left i below)
-          (ticked.left i below);
-    } in
-    let Run : ℕ → Type 0 = λ c. HasRunWith s c n thread first q after new before now in
-    subst Run (sym (add-one k)) done
-
--- a run continues over cycles without an event of the thread
-pub run_goes : (s : Start) (n thread : ℕ) (first : List (Option Row)) (stages later : Stages)
-    (m after : Machine) (rows new : List (Option Row)) (before now : Option (List ℕ))
-    (line : List ℕ) → Runs s m.at n thread first stages m rows before now →
-    ((w : Held Written) → RefinesWith s m.at n (registers_in stages w) m rows →
-    Advanced s m.at n thread later after new None line) → AreLeft rows new →
-    Runs s after.at n thread first later after new before now
-run_goes s n thread first stages later m after rows new before now line (w, run) ahead left =
-    let gone : Advanced s m.at n thread later after new None line = ahead w run.refines in
-    let Told : List ℕ → Type 0 = λ x. Appends before now x in (
-      gone.w,
-      record {
-        put = subst Told (sym (gone.last ∙ append-nil (text (events s thread m.at)))) run.put;
-        refines = gone.refines;
-        left =
-            λ i below. left_more (row_at first i) (row_at rows i) (row_at new i) (run.left i below)
-            (left i below);
-      },
-    )
-
--- a run continues over cycles up to a line, which was written
-pub run_shows : (s : Start) (n thread : ℕ) (first : List (Option Row)) (stages later : Stages)
-    (m after : Machine) (rows new : List (Option Row)) (before between now : Option (List ℕ))
-    (x : Written) (line : List ℕ) → Runs s m.at n thread first stages m rows before between →
-    ((w : Held Written) → RefinesWith s m.at n (registers_in stages w) m rows →
-    Advanced s m.at n thread later after new (Some x) line) → AreLeft rows new →
-    Appends between now line → Runs s after.at n thread first later after new before now
-run_shows s n thread first stages later m after rows new
-    before between now x line (w, run) ahead left put =
-    let gone : Advanced s m.at n thread later after new (Some x) line = ahead w run.refines in
-    let Told : List ℕ → Type 0 = λ x. Appends before now x in (
-      gone.w,
-      record {
-        put =
-            subst Told (sym gone.last)
-            (appends_more before between now (text (events s thread m.at)) line run.put put);
-        refines = gone.refines;
-        left =
-            λ i below. left_more (row_at first i) (row_at rows i) (row_at new i) (run.left i below)
-            (left i below);
-      },
-    )
-
 -- bytes, and then a prefix of others
 pub beyond : (before between now : Option (List ℕ)) (xs ys : List ℕ) → Appends before between xs →
     AppendsFront between now ys → AppendsBeyond before now xs
@@ -221,87 +149,27 @@ beyond (Some told) (Some more) None xs ys first second = absurd second
 beyond (Some told) (Some more) (Some most) xs ys first (n, within, taken) =
     (take n ys, taken ∙ ap (λ zs. zs ++ take n ys) first)
 
--- A run that stops at a line, with a prefix of the line written. The machine has its stage
--- registers again.
-pub run_stops : EventsGrow → (s : Start) (n thread : ℕ) (first : List (Option Row))
-    (stages later : Stages) (m after : Machine) (rows new : List (Option Row))
-    (before between now : Option (List ℕ)) (x : Written) (line : List ℕ) (pipe : Pipe) →
-    abstract_stages pipe ≡ registers_in later (Issue thread x) →
-    after.at ≤ n → Runs s m.at n thread first stages m rows before between →
+-- a cycle of a machine whose stage registers stood beside it
+pub ticks_of_run : (s : Start) (n : ℕ) (stages : Stages) (m after : Machine)
+    (rows new : List (Option Row)) (event retired : Option Event) →
+    registers_in stages m.pipe.w ≡ abstract_stages m.pipe → event ≡ retired →
+    Refines s m.at n m rows →
     ((w : Held Written) → RefinesWith s m.at n (registers_in stages w) m rows →
-    Advanced s m.at n thread later after new (Some x) line) → AreLeft rows new →
-    AppendsFront between now line →
-    Stopped s n thread first (record after { pipe = pipe }) new before now
-run_stops grows s n thread first stages later m after rows new
-    before between now x line pipe pipe_is within (w, run) ahead left put =
-    let gone : Advanced s m.at n thread later after new (Some x) line = ahead w run.refines in
-    let told : List ℕ = text (events s thread m.at) in
-    let (rest, goes) = text_goes_on grows s thread after.at (n - after.at) in
-    let end : n ≡ after.at + (n - after.at) = omega (arith, within) in
-    let whole : text (events s thread n) ≡ (told ++ line) ++ rest =
-    ap (λ c. text (events s thread c)) end ∙ goes ∙ ap (λ zs. zs ++ rest) gone.last in
-    let Beyond : List ℕ → Type 0 = λ x. AppendsBeyond before now x in
-    let Front : List ℕ → Type 0 = λ x. AppendsFront before now x in
-    let With : StageRegisters → Type 0 = λ p. RefinesWith s after.at n p after new in
+    Ticks s m.at n rows after new retired) → Ticks s m.at n rows after new event
+ticks_of_run s n stages m after rows new event retired is same st tick =
+    subst (λ (e : Option Event). Ticks s m.at n rows after new e) (sym same)
+    (tick m.pipe.w (subst (λ p. RefinesWith s m.at n p m rows) (sym is) st))
+
+pub ticks_given_back : (s : Start) (c n : ℕ) (q : StageRegisters) (m after : Machine)
+    (rows new : List (Option Row)) (event : Option Event) → abstract_stages after.pipe ≡ q →
+    after ≡ record m { pipe = after.pipe } → TicksWith s c n rows q m new event →
+    Ticks s c n rows after new event
+ticks_given_back s c n q m after rows new event is same ticked =
+    let p : StageRegisters = abstract_stages after.pipe in
+    let With : Machine → Type 0 = λ x. RefinesWith s (suc c) n p x new in
     record {
-      put =
-          appends_front before between now told line rest
-          (text (events s thread n)) whole run.put put;
-      before_last =
-          subst Beyond (sym (gone.quiet refl)) (beyond before between now told line run.put put);
-      with_last =
-          subst Front (sym gone.last) (front_after before between now told line run.put put);
-      within = within;
       refines =
-          subst With (ap (λ v. registers_in later v) (gone.exact x refl) ∙ sym pipe_is)
-          gone.refines;
-      left =
-          λ i below. left_more (row_at first i) (row_at rows i) (row_at new i) (run.left i below)
-          (left i below);
+          subst With (sym same) (subst (λ x. RefinesWith s (suc c) n x m new) (sym is) ticked.refines);
+      event_is = ticked.event_is;
+      left = ticked.left;
     }
-
--- a run takes its machine's stage registers
-pub run_with : (s : Start) (k n thread : ℕ) (first : List (Option Row)) (stages : Stages)
-    (m : Machine) (rows : List (Option Row)) (before now : Option (List ℕ)) →
-    registers_in stages m.pipe.w ≡ abstract_stages m.pipe →
-    HasRun s k n thread first m rows before now → Runs s k n thread first stages m rows before now
-run_with s k n thread first stages m rows before now is run = (
-  m.pipe.w,
-  subst (λ p. HasRunWith s k n thread first p m rows before now) (sym is) run,
-)
-
--- and its last cycle gives them back
-pub run_ends : EventsGrow → (s : Start) (n thread : ℕ) (first : List (Option Row))
-    (stages : Stages) (q : StageRegisters) (m after : Machine) (rows new : List (Option Row))
-    (before between now : Option (List ℕ)) (event : Option Event) (pipe : Pipe) →
-    abstract_stages pipe ≡ q → Runs s m.at n thread first stages m rows before between →
-    ((w : Held Written) → RefinesWith s m.at n (registers_in stages w) m rows →
-    TicksWith s m.at n rows q after new event) →
-    Appends between now (text (of_thread thread event)) →
-    HasRun s (m.at + 1) n thread first (record after { pipe = pipe }) new before now
-run_ends grows s n thread first stages q m after rows new
-    before between now event pipe is (w, run) tick put =
-    let done : HasRunWith s (m.at + 1) n thread first q after new before now =
-    run_on grows s m.at n thread first m after rows new before between now event run refl (tick w)
-    put in
-    record {
-      put = done.put;
-      refines = subst (λ p. RefinesWith s (m.at + 1) n p after new) (sym is) done.refines;
-      left = done.left;
-    }
-
--- a run, by an equal number of cycles
-pub run_comes_to : {s : Start} {k c n thread : ℕ} {first : List (Option Row)}
-    (stages : Stages) {m : Machine} {rows : List (Option Row)} {before now : Option (List ℕ)} →
-    k ≡ c → Runs s k n thread first stages m rows before now →
-    Runs s c n thread first stages m rows before now
-run_comes_to {s} {k} {c} {n} {thread} {first} stages {m} {rows} {before} {now} same run =
-    let Run : ℕ → Type 0 = λ a. Runs s a n thread first stages m rows before now in
-    subst Run same run
-
-pub machine_comes_to : {s : Start} {k c n thread : ℕ} {first : List (Option Row)} {m : Machine}
-    {rows : List (Option Row)} {before now : Option (List ℕ)} → k ≡ c →
-    HasRun s k n thread first m rows before now → HasRun s c n thread first m rows before now
-machine_comes_to {s} {k} {c} {n} {thread} {first} {m} {rows} {before} {now} same run =
-    let Run : ℕ → Type 0 = λ a. HasRun s a n thread first m rows before now in
-    subst Run same run

@@ -1,18 +1,15 @@
 -- Cycles in which nobody is awake and nothing is in the pipeline.
 use Rattle.std.proofs.Common.{◌≡◌, ℕ, zero, suc, ◌+◌, ◌-◌, ◌*◌, ◌<◌, ◌≤◌, ◌%◌, inl, inr, Bool}
-use Rattle.std.proofs.Common.{true, false, List, [], ◌∷◌, ◌++◌, get_or, length, map, find}
-use Rattle.std.proofs.Common.{None, Option, refl, ap, sym, subst, ◌∙◌, arith, add-one, add-zero}
+use Rattle.std.proofs.Common.{true, false, List, [], ◌∷◌, get_or, length, map, find}
+use Rattle.std.proofs.Common.{None, Option, refl, ap, sym, subst, arith, add-one}
 use Rattle.std.specs.Prelude.{◌==◌, ◌&&◌, nat_le, is_some}
 use Rattle.std.specs.List.{list_any}
 use Rattle.std.specs.Int.{div_ceil}
-use Rattle.std.specs.Io.KnownBytes.{Appends}
 use Rattle.std.proofs.Math.Nat.{mul-le-mul_left}
 use Rattle.std.proofs.lemmas.Grind.{div_ceil_times}
 use Rattle.std.proofs.lemmas.Bool.{cases_lt}
 use Rattle.std.proofs.lemmas.Bool.Decides.{nat_tests}
-use Rattle.std.proofs.lemmas.List.{append-nil}
 use Rattle.fp_ports.specs.PluggedPorts.{Row}
-use Rattle.rv_exec.specs.declared.outcome.Event.{Event}
 use Rattle.slot_table.specs.Frame.{IsTurn, turn}
 use Rattle.slot_table.specs.declared.frame.Turn.{Turn}
 use Rattle.slot_table.specs.declared.frame.Turn.TheVariants.{Thread, Soft, Nobody}
@@ -23,26 +20,24 @@ use Rattle.slot_scheduler.specs.Picking.{is_awake, pick, pick_in, takes_donated}
 use Rattle.slot_scheduler.specs.declared.picking.Pick.TheVariants as chosen
 use Rattle.slot_scheduler.specs.declared.picking.Sched.{Sched}
 use Rattle.timer_unit.specs.Time.{time}
-use Rattle.trace_print.specs.Text.{text}
-use Rattle.core_model.specs.World.{Start, events, sched_by}
+use Rattle.core_model.specs.World.{Start, sched_by}
 use Rattle.pipe_model.specs.declared.stage_registers.Held.TheVariants as stage
 use Rattle.pipe_model.specs.Stages.{After, StageRegisters, State, Ticked, next_after_fetch}
 use Rattle.pipe_model.specs.Stages.{bank_after, decode_stage, execute_stage, fetch_stage}
 use Rattle.pipe_model.specs.Stages.{finish, memory_stage, ports_stored, next_after_redirect}
 use Rattle.pipe_model.specs.Stages.{retired_event, step, words_stored, writeback_stage}
 use Rattle.pipe_model.specs.Relation.{Begins, RefinesNext, PortsRefine}
-use Rattle.pipe_model.specs.Relation.{Refines as PipelineRefines, event_in, of_thread, turn_at}
-use Rattle.pipe_model.specs.PipelineLaws.{EventsGrow, empty}
+use Rattle.pipe_model.specs.Relation.{Refines as PipelineRefines, event_in, turn_at}
+use Rattle.pipe_model.specs.PipelineLaws.{empty}
 use Rattle.pipe_model.proofs.Keeping.{keeps}
-use Rattle.pipeline_core.specs.Abstraction.{abstract_stages, abstract_state, registers_in}
+use Rattle.pipeline_core.specs.Abstraction.{abstract_state, registers_in}
 use Rattle.pipeline_core.specs.Abstraction.{ticked_with}
 use Rattle.machine.specs.declared.state.Machine.{Machine}
 use Rattle.pipe_model.specs.declared.stage_registers.Held.{Held}
 use Rattle.pipe_model.specs.declared.stage_registers.Written.{Written}
 use Rattle.pipeline_core.specs.declared.stages.Stages.{Stages}
-use Rattle.machine.specs.Advancing.{Runs}
-use Rattle.machine.specs.WorldRelation.{HasRun, HasRunWith, Refines, RefinesWith, TicksWith}
-use Rattle.machine.specs.Sleeping.{NobodyAwake, PassedOver, PassedOverWith, SleepsOn, idle_tick}
+use Rattle.machine.specs.WorldRelation.{HasRun, Refines, RefinesWith, TicksWith}
+use Rattle.machine.specs.Sleeping.{NobodyAwake, PassedOverWith, SleepsOn, idle_tick}
 use Rattle.machine.proofs.Retiring.{none_due}
 use Rattle.machine.proofs.RunLemmas.{run_begins, ticks}
 
@@ -174,24 +169,6 @@ passes_to s n d next w m rows eight none forth asleep within st =
     (λ k low below. asleep k low (omega (arith, forth, below))) (omega (arith, forth, within)) st)
 
 -- the cycles up to d are skipped
-pub passed_over : (s : Start) (n d : ℕ) (m : Machine) (rows : List (Option Row)) → length rows ≡ 8 →
-    (m.at < d → list_any is_some m.unplugs ≡ false) →
-    abstract_stages m.pipe ≡ empty m.pipe.next → m.at ≤ d →
-    ((k : ℕ) → m.at ≤ k → k < d → NobodyAwake m.units.sched (time m.units.clock k)) → d ≤ n + 3 →
-    Refines s m.at n m rows → PassedOver s m.at n (come_to m d) rows
-passed_over s n d m rows eight none is forth asleep within st =
-    elim (cases_lt m.at d) [
-      | inl more ↦
-          subst (λ p. PassedOverWith s m.at n p (come_to m d) rows) (sym is)
-          (passes_to s n d m.pipe.next stage.Bubble m rows eight (none more) more asleep within
-          (subst (λ p. RefinesWith s m.at n p m rows) is st))
-      | inr end ↦
-          (let here : m.at ≡ d = omega (arith, forth, end) in
-          subst (λ (e : ℕ). PassedOver s m.at n (come_to m e) rows) here
-          (stays s n (abstract_stages m.pipe) m rows st))
-    ]
-
--- the same with the stage registers beside the machine
 pub passed_over_with : (s : Start) (n d : ℕ) (stages : Stages) (w : Held Written) (m : Machine)
     (rows : List (Option Row)) → length rows ≡ 8 → (m.at < d → list_any is_some m.unplugs ≡ false) →
     ((v : Held Written) → registers_in stages v ≡ record (empty stages.next) { w = v }) → m.at ≤ d →
@@ -243,56 +220,6 @@ before_waking s wakes now least before thread below = go (is_active (mode_of s.m
         (active && nat_le (get_or s.sleep thread 0) now) ≡ false
     go false e = refl
     go true e = late (get_or s.sleep thread 0) (least thread below e)
-
--- a thread has no more events after cycles in which none retires
-quiet_events : EventsGrow → (s : Start) (i c j : ℕ) →
-    ((k : ℕ) → c ≤ k → k < c + j → event_in (k - 4) (turn_at s k 3) ≡ None) →
-    events s i (c + j) ≡ events s i c
-quiet_events grows s i c zero quiet = ap (λ d. events s i d) (add-zero c)
-quiet_events grows s i c (suc j) quiet =
-    let next : c + suc j ≡ suc (c + j) = omega arith in
-    ap (λ d. events s i d) next ∙ grows s i (c + j)
-    ∙ ap (λ (e : Option Event). events s i (c + j) ++ of_thread i e)
-    (quiet (c + j) (omega arith) (omega arith)) ∙ append-nil (events s i (c + j))
-    ∙ quiet_events grows s i c j (λ k low below. quiet k low (omega arith))
-
-pub no_events_passed : EventsGrow → (s : Start) (i c n : ℕ) {p : StageRegisters} (m : Machine)
-    (rows : List (Option Row)) → c ≤ m.at → PassedOverWith s c n p m rows →
-    events s i m.at ≡ events s i c
-no_events_passed grows s i c n m rows forth passed =
-    let there : c + (m.at - c) ≡ m.at = omega (arith, forth) in
-    ap (λ d. events s i d) (sym there) ∙ quiet_events grows s i c (m.at - c)
-    (λ k low below. passed.quiet k low (omega (arith, forth, below)))
-
--- a run continues over skipped cycles
-pub run_passes : EventsGrow → (s : Start) (k n thread : ℕ) {p q : StageRegisters}
-    (first : List (Option Row)) (m after : Machine) (rows : List (Option Row))
-    (before now : Option (List ℕ)) → m.at ≡ k → m.at ≤ after.at →
-    (RefinesWith s m.at n p m rows → PassedOverWith s m.at n q after rows) →
-    HasRunWith s k n thread first p m rows before now →
-    HasRunWith s after.at n thread first q after rows before now
-run_passes grows s k n thread {p} {q} first m after rows before now at forth passes run =
-    let Stand : ℕ → Type 0 = λ c. RefinesWith s c n p m rows in
-    let passed : PassedOverWith s m.at n q after rows = passes (subst Stand (sym at) run.refines) in
-    let same : events s thread after.at ≡ events s thread k =
-    no_events_passed grows s thread m.at n after rows forth passed
-    ∙ ap (λ c. events s thread c) at in
-    let Told : List Event → Type 0 = λ es. Appends before now (text es) in
-    record { put = subst Told (sym same) run.put; refines = passed.refines; left = run.left }
-
--- the same with the stage registers beside the machine
-pub runs_pass : EventsGrow → (s : Start) (n thread : ℕ) (first : List (Option Row))
-    (stages : Stages) (m after : Machine) (rows : List (Option Row))
-    (before now : Option (List ℕ)) → m.at ≤ after.at →
-    ((w : Held Written) → RefinesWith s m.at n (registers_in stages w) m rows →
-    (v : Held Written) × PassedOverWith s m.at n (registers_in stages v) after rows) →
-    Runs s m.at n thread first stages m rows before now →
-    Runs s after.at n thread first stages after rows before now
-runs_pass grows s n thread first stages m after rows before now forth passes (w, run) =
-    let (v, passed) = passes w run.refines in (
-      v,
-      run_passes grows s m.at n thread first m after rows before now refl forth (λ st. passed) run,
-    )
 
 -- the run of a machine that has done no cycle
 pub run_begins_at : (s : Start) (n thread : ℕ) (m : Machine) (rows : List (Option Row))

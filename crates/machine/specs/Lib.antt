@@ -3,7 +3,10 @@ pub mod Fields
 pub mod FieldRelation
 pub mod FieldLaws
 pub mod WorldRelation
-pub mod Advancing
+pub mod Observing
+pub mod ThreadLines
+pub mod Unseen
+pub mod Running
 pub mod Sleeping
 pub mod Feeding
 pub mod PortLaws

@@ -34,7 +34,3 @@ pub record PassedOverWith (s : Start) (c n : ℕ) (p : StageRegisters) (m : Mach
     (ports : List (Option Row)) : Type 0 where
   pub refines : RefinesWith s m.at n p m ports
   pub quiet : (k : ℕ) → c ≤ k → k < m.at → event_in (k - cycles_to_w) (turn_at s k 3) ≡ None
-
--- the same with the machine's own stage registers
-abbrev pub PassedOver : Start → ℕ → ℕ → Machine → List (Option Row) → Type 0
-PassedOver s c n m ports = PassedOverWith s c n (abstract_stages m.pipe) m ports

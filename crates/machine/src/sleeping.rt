@@ -9,16 +9,14 @@ ghost use Rattle.timer_unit.specs.Time.{time};
 ghost use Rattle.core_model.specs.Cycles.{cycles_to_m};
 ghost use Rattle.core_model.specs.World.{Start};
 ghost use Rattle.pipe_model.specs.PipelineLaws.{empty};
-ghost use Rattle.pipeline_core.specs.Abstraction.{abstract_stages};
 ghost use Rattle.pipeline_core.specs.Abstraction.{registers_in};
 ghost use Rattle.pipe_model.specs.declared.stage_registers.Held.{Held};
 ghost use Rattle.pipe_model.specs.declared.stage_registers.Written.{Written};
-ghost use Rattle.machine.specs.Sleeping.{NobodyAwake, PassedOver, PassedOverWith, SleepsOn};
-ghost use Rattle.machine.specs.WorldRelation.{Refines, RefinesWith};
+ghost use Rattle.machine.specs.Sleeping.{NobodyAwake, PassedOverWith, SleepsOn};
+ghost use Rattle.machine.specs.WorldRelation.{RefinesWith};
 
 use crate::state::Machine;
-use pipe_model::Held;
-use pipeline_core::{Pipe, Stages};
+use pipeline_core::Stages;
 
 /// In a cycle with an empty pipeline and no thread awake nothing changes, and no event retires. The
 /// contract states the theorem; the call does nothing.
@@ -30,70 +28,15 @@ pub fn sleeps_on()
 const NEVER: u64 = u64::MAX;
 
 impl Machine {
-    /// Skips cycles before `end` in which every thread sleeps and the pipeline is empty, in one
-    /// step. The machine is then in the state after as many ticks; these change only `at`, no port,
-    /// and retire no event. It may skip fewer such cycles than there are, or none. It skips none if
-    /// any port is ever removed, since a port must be removed in its cycle.
+    /// Skips cycles before `end` in which every thread sleeps, in one step, if the pipeline of
+    /// these stage registers is empty. It may skip fewer such cycles than there are, or none. It
+    /// skips none if any port is ever removed, since a port must be removed in its cycle. The turn
+    /// in `w` may be any before, and is a bubble after a skipped cycle.
     ///
-    /// This is a special case of [`tick`](Machine::tick), for setups whose threads sleep through
-    /// most cycles. In a cycle in which a thread has a turn it makes one test.
-    #[inline(always)]
-    pub fn skip_sleep(&mut self, end: u64)
-        requires { self.old.at ≤ end }
-        ensures on { self.old.at ≤ self.new.at }
-        ensures end { self.new.at ≤ end }
-        ensures same { self.new ≡ record self.old { at = self.new.at } }
-        ensures passed { (s : Start) (n : ℕ) (ports : List (Option Row)) → end ≤ n + cycles_to_m
-            → length ports ≡ 8 → Refines s self.old.at n self.old ports
-            → PassedOver s self.old.at n self.new ports }
-    {
-        if matches!(self.pipe.f, Held::Bubble) {
-            self.skip_empty(end);
-        }
-    }
-
-    /// The same, if the cycle before picked no thread. It isn't inlined, so that cycles in which a
-    /// thread is picked have only the test of `f`.
+    /// It isn't inlined, so that cycles in which a thread is picked have only the test of `f`.
     #[cold]
     #[inline(never)]
-    fn skip_empty(&mut self, end: u64)
-        requires { self.old.at ≤ end }
-        ensures on { self.old.at ≤ self.new.at }
-        ensures end { self.new.at ≤ end }
-        ensures same { self.new ≡ record self.old { at = self.new.at } }
-        ensures passed { (s : Start) (n : ℕ) (ports : List (Option Row)) → end ≤ n + cycles_to_m
-            → length ports ≡ 8 → Refines s self.old.at n self.old ports
-            → PassedOver s self.old.at n self.new ports }
-    {
-        if self.is_empty() {
-            self.at = self.end_of_sleep(end);
-        }
-    }
-
-    /// Does the same as [`skip_sleep`](Machine::skip_sleep) with the stage registers in `stages`.
-    /// The turn in `w` isn't among them. It may be any before, and is a bubble after a skipped
-    /// cycle.
-    #[inline(always)]
-    pub(crate) fn skip_sleep_of(&mut self, stages: &Stages, end: u64)
-        requires { self.old.at ≤ end }
-        ensures on { self.old.at ≤ self.new.at }
-        ensures end { self.new.at ≤ end }
-        ensures same { self.new ≡ record self.old { at = self.new.at } }
-        ensures passed { (s : Start) (n : ℕ) (ports : List (Option Row)) (w : Held Written)
-            → end ≤ n + cycles_to_m → length ports ≡ 8
-            → RefinesWith s self.old.at n (registers_in stages.now w) self.old ports
-            → (v : Held Written)
-            × PassedOverWith s self.old.at n (registers_in stages.now v) self.new ports }
-    {
-        if stages.f.is_bubble() {
-            self.skip_empty_of(stages, end);
-        }
-    }
-
-    /// The same, if the cycle before picked no thread.
-    #[cold]
-    #[inline(never)]
-    fn skip_empty_of(&mut self, stages: &Stages, end: u64)
+    pub(crate) fn skip_empty(&mut self, stages: &Stages, end: u64)
         requires { self.old.at ≤ end }
         ensures on { self.old.at ≤ self.new.at }
         ensures end { self.new.at ≤ end }
@@ -123,24 +66,6 @@ impl Machine {
             return self.at;
         }
         self.at.max(self.first_awake_cycle().min(end))
-    }
-
-    /// Whether the pipeline is empty.
-    fn is_empty(&self) -> bool
-        ensures { result ≡ true
-            → abstract_stages self.now.pipe ≡ empty self.now.pipe.next }
-    {
-        matches!(
-            &self.pipe,
-            Pipe {
-                f: Held::Bubble,
-                d: Held::Bubble,
-                e: Held::Bubble,
-                m: Held::Bubble,
-                w: Held::Bubble,
-                ..
-            }
-        )
     }
 
     /// The first cycle in which a thread is awake, by the current modes and sleep moments.

@@ -5,8 +5,7 @@ use pipeline_core::{Pipe, Units};
 /// The machine between two cycles: its whole state, without the devices at the ports.
 #[derive(Drop)]
 pub struct Machine {
-    /// The turns in the stages. While a loop works on
-    /// [`Stages`](pipeline_core::Stages), those from before the loop.
+    /// The turns in the stages.
     pub pipe: Pipe,
     /// The units that the stages use: registers, scratchpads, slots, regions, timers and traps.
     pub units: Units,

@@ -5,7 +5,7 @@ ghost use Rattle.timer_unit.specs.Time.{most_cycles};
 
 use crate::cycle::Cycle;
 use crate::konata::Konata;
-use crate::progress::{Progress, tell_at};
+use crate::progress::{Progress, next_report, tell_at};
 use crate::svg::Svg;
 use crate::text::Rows;
 use crate::vcd::Vcd;
@@ -66,20 +66,11 @@ fn go<P: Progress>(machine: &mut Machine, ports: &mut Ports, cycles: u64, progre
     ensures at { machine.new.at ≡ cycles }
     ensures eight { vec_len ports.new ≡ 8 }
 {
-    for _cycle in 0..cycles {
-        pass_over(machine, ports);
+    while machine.at < cycles {
+        let next = next_report(machine.at).min(cycles);
+        machine.run_unseen(next, ports);
         tell_at(progress, machine.at);
     }
-}
-
-/// Does a cycle and discards its observation.
-fn pass_over(machine: &mut Machine, ports: &mut Ports)
-    requires cycle { machine.old.at < most_cycles }
-    requires eight { vec_len ports.old ≡ 8 }
-    ensures at { machine.new.at ≡ machine.old.at + 1 }
-    ensures eight { vec_len ports.new ≡ 8 }
-{
-    let _event = machine.tick(ports);
 }
 
 /// Does a cycle, and puts the one that is whole then, if the window has it.

@@ -16,8 +16,7 @@ use crate::cycle::{Cycle, CycleStart, ThreadState};
 use arrayvec::ArrayString;
 use fp_ports::{ABSENT_WORD, Ports, latch_of, read_port};
 use machine::Machine;
-use pipeline_core::{Held, Stored};
-use rv_exec::Event;
+use pipeline_core::{Held, Retired, Stored};
 use trace_print::line;
 
 /// The last cycles, kept until they are complete.
@@ -117,16 +116,10 @@ fn line_in_m(machine: &Machine, cycle: u64) -> Option<ArrayString<96>>
     let Held::Issue { thread, what } = &machine.pipe.m else {
         return None;
     };
-    let Some(effect) = what.effect else {
-        return None;
-    };
-    Some(line(&Event {
-        cycle,
-        thread: *thread,
-        pc: what.pc,
-        word: what.word,
-        effect,
-    }))
+    match Retired::of(cycle, *thread, what) {
+        Some(issue) => Some(line(&issue.event())),
+        None => None,
+    }
 }
 
 /// Whether a thread's mode is asleep at the start of the next cycle, or its sleep moment is in the

@@ -1,5 +1,6 @@
 pub mod StageFacts
 pub mod Turns
+pub mod Retiring
 pub mod Abstraction
 pub use Rattle.core_model.specs.Cycles
 pub use Rattle.core_model.specs.Memory

@@ -29,8 +29,8 @@ use pipe_model::{Decoded, Executed, Flush, Redirect};
 use rv_decode::{LATE_LAG, PLAIN_LAG};
 use rv_exec::Effect;
 
-/// The loop number of [`execute_rare`], which no loop contains.
-const OUT_OF_LINE: u8 = 0;
+/// The loop of [`execute_rare`], which no loop contains.
+struct OutOfLine;
 
 /// Which younger turns of the thread are flushed, by the lag of the execution; None if none are.
 #[inline(always)]
@@ -138,7 +138,7 @@ fn leave(
 /// Executes an instruction: any one with `RARE`, else only a frequent one. Without `RARE` it
 /// returns None and changes nothing for a rare instruction, an expiry and a trap.
 #[inline(always)]
-fn execute_one<const RARE: bool, const LOOP: u8>(
+fn execute_one<const RARE: bool, LOOP>(
     hart: &mut Hart<'_>,
     at: PcWord,
     expired: bool,
@@ -168,7 +168,7 @@ fn execute_one<const RARE: bool, const LOOP: u8>(
 /// an expiry, a trap, and an instruction on control registers, traps or time.
 #[tactic(auto, unfolding(pipe_model::specs::Stages::execute_stage))]
 #[inline(always)]
-fn execute_issue<const RARE: bool, const LOOP: u8>(
+fn execute_issue<const RARE: bool, LOOP>(
     units: &mut Units,
     cycle: u64,
     thread: u8,
@@ -241,7 +241,7 @@ fn execute_rare(
         pc: 0,
         flush: Flush::Decode,
     };
-    if execute_issue::<true, OUT_OF_LINE>(units, cycle, thread, x, e, &mut redirect).unwrap() {
+    if execute_issue::<true, OutOfLine>(units, cycle, thread, x, e, &mut redirect).unwrap() {
         Some(redirect)
     } else {
         None
@@ -281,7 +281,7 @@ fn execute_out_of_line(
 
 /// Executes an issue, out of line if it is rare.
 #[inline(always)]
-fn execute_turn<const LOOP: u8>(
+fn execute_turn<LOOP>(
     units: &mut Units,
     cycle: u64,
     thread: u8,
@@ -313,7 +313,7 @@ fn execute_turn<const LOOP: u8>(
 /// thread, and slots, modes and regions.
 #[tactic(auto, unfolding(pipe_model::specs::Stages::execute_stage))]
 #[inline(always)]
-pub fn execute_stage<const LOOP: u8>(
+pub fn execute_stage<LOOP>(
     units: &mut Units,
     cycle: u64,
     d: &StageRegister<Decoded>,

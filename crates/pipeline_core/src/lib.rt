@@ -8,6 +8,7 @@ mod fetch;
 mod memory;
 mod memory_stage;
 mod pipe;
+mod retiring;
 mod stage_register;
 mod stages;
 mod units;
@@ -15,6 +16,7 @@ mod writeback;
 
 pub use pipe::Pipe;
 pub use pipe_model::{Decoded, Executed, Fetched, Held, Stored, Written};
+pub use retiring::Retired;
 pub use stage_register::StageRegister;
 pub use stages::Stages;
 pub use units::Units;

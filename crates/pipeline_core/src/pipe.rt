@@ -16,8 +16,8 @@ use fp_ports::{Port, Ports};
 use pipe_model::{Decoded, Executed, Fetched, Held, Stored, Written, refinement, start_refines};
 use rv_exec::Event;
 
-/// The loop number of [`Pipe::tick`].
-const ONE_CYCLE: u8 = 0;
+/// The loop of [`Pipe::tick`].
+struct OneCycle;
 
 /// The stage registers, with the turns of the last five cycles. Before cycle c, `f` holds the turn
 /// of c − 1, `d` that of c − 2, and so on to `w` with that of c − 5.
@@ -110,7 +110,8 @@ impl Pipe {
         refinement();
         let mut stages = Stages::of(self);
         let w = stages.written();
-        let event = stages.tick::<ONE_CYCLE>(units, ports, cycle);
+        let event = stages.m.event(cycle);
+        stages.tick::<OneCycle>(units, ports, cycle);
         *self = stages.pipe(w);
         event
     }

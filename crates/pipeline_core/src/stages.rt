@@ -18,10 +18,9 @@ use crate::memory_stage::memory_stage;
 use crate::pipe::Pipe;
 use crate::stage_register::StageRegister;
 use crate::units::Units;
-use crate::writeback::{retire, write_back, written};
+use crate::writeback::{write_back, written};
 use fp_ports::{Port, Ports};
 use pipe_model::{Decoded, Executed, Fetched, Flush, Held, Redirect, Stored, Written};
-use rv_exec::Event;
 use slot_scheduler::Pick;
 
 /// The content that [`Stages::of`] puts in `f` if its turn isn't an issue.
@@ -89,7 +88,6 @@ impl Stages {
     ghost use Rattle.pipe_model.specs.Stages.{step, words_stored, writeback_stage};
     ghost use Rattle.pipe_model.specs.PipelineLaws.{empty};
     ghost use Rattle.pipeline_core.specs.StageFacts.{uses_port};
-    ghost use Rattle.rv_exec.specs.Line.{IsPrintableEvent};
     ghost use Rattle.pipeline_core.specs.Abstraction.{executed_by, registers_in};
     ghost use Rattle.pipeline_core.specs.Abstraction.{abstract_stages, abstract_state, ticked_with};
 
@@ -139,44 +137,21 @@ impl Stages {
         written(&self.m)
     }
 
-    /// Does one cycle of the core, and returns the event that retires. With
-    /// [`refinement`](pipe_model::refinement) it preserves the relation to the world. `LOOP` is the
-    /// number of the loop over cycles. It has no effect on a result, and no other loop of the
-    /// program may have it, as [`execute_frequent`](hart_exec::execute_frequent) says.
-    #[inline(always)]
-    pub fn tick<const LOOP: u8>(
-        &mut self,
-        units: &mut Units,
-        ports: &mut Ports,
-        cycle: u64,
-    ) -> Option<Event>
-        requires cycle { cycle < most_cycles }
-        requires eight { vec_len ports.old ≡ 8 }
-        ensures step { (w : Held Written) → ticked_with
-            (registers_in self.new (writeback_stage (held self.old.m))) units.new
-            (rows_of latched word_at ports.new.items)
-            result ≡ step (registers_in self.old w)
-            (abstract_state units.old (rows_of latched word_at ports.old.items)) cycle }
-        ensures idle { uses_port units.old.guard.size (held self.old.e) ≡ false
-            → ports.new ≡ ports.old }
-        ensures eight { vec_len ports.new ≡ 8 }
-        ensures retires { result ≡ retired_event (cycle - cycles_to_w) (held self.old.m) }
-        ensures printable { IsPrintableEvent result }
-    {
-        let event = retire(&self.m, cycle);
-        self.step::<LOOP>(units, ports, cycle);
-        event
-    }
-
-    /// Does one cycle, stage by stage. The older stages run first, so that the younger ones use
-    /// their results. The pick uses slots, modes and sleep moments from before the cycle. The turn
-    /// that enters M was issued three cycles ago, and reads the word of that cycle at its thread's
-    /// port. The turn that enters E was issued two cycles ago, and the one that enters D one cycle
-    /// ago. They use the times of those cycles.
+    /// Does one cycle of the core, stage by stage. With [`refinement`](pipe_model::refinement) it
+    /// preserves the relation to the world. The turn in `m` before the cycle retires in it:
+    /// [`StageRegister::retired`] is its issue, called before the cycle. `LOOP` has no effect on a
+    /// result. It is a type for each loop over cycles, as
+    /// [`execute_frequent`](hart_exec::execute_frequent) says.
     ///
-    /// Inlined, and so is `tick`: a loop over cycles then contains the stages.
+    /// The older stages run first, so that the younger ones use their results. The pick uses slots,
+    /// modes and sleep moments from before the cycle. The turn that enters M was issued three
+    /// cycles ago, and reads the word of that cycle at its thread's port. The turn that enters E
+    /// was issued two cycles ago, and the one that enters D one cycle ago. They use the times of
+    /// those cycles.
+    ///
+    /// Inlined: a loop over cycles then contains the stages.
     #[inline(always)]
-    fn step<const LOOP: u8>(&mut self, units: &mut Units, ports: &mut Ports, cycle: u64)
+    pub fn tick<LOOP>(&mut self, units: &mut Units, ports: &mut Ports, cycle: u64)
         requires cycle { cycle < most_cycles }
         requires eight { vec_len ports.old ≡ 8 }
         ensures step { (w : Held Written) → ticked_with
@@ -239,12 +214,7 @@ impl Stages {
     /// E. Returns whether turns of a thread are flushed; if so, `redirect` has the thread and the
     /// pc at which it continues.
     #[inline(always)]
-    fn execute<const LOOP: u8>(
-        &mut self,
-        units: &mut Units,
-        cycle: u64,
-        redirect: &mut Redirect,
-    ) -> bool
+    fn execute<LOOP>(&mut self, units: &mut Units, cycle: u64, redirect: &mut Redirect) -> bool
         requires cycle { cycle < most_cycles }
         ensures e { held self.new.e ≡ (executed_by units.old cycle (held self.old.d)).e }
         ensures redirect { (executed_by units.old cycle (held self.old.d)).redirect

@@ -1,40 +1,16 @@
-//! W: registers are written, and events retire.
+//! W: registers are written.
 
-ghost use Rattle.std.specs.Prelude.{◌≡◌, ◌-◌, ◌<◌, [], slice_index_or, slice_set};
+ghost use Rattle.std.specs.Prelude.{◌≡◌, ◌<◌, [], slice_index_or, slice_set};
 ghost use Rattle.core_model.specs.Thread.{reg_set, regs_after};
-ghost use Rattle.pipe_model.specs.Stages.{bank_after, writeback_stage, retired_event};
+ghost use Rattle.pipe_model.specs.Stages.{bank_after, writeback_stage};
 ghost use Rattle.pipeline_core.specs.Turns.{held};
 ghost use Rattle.pipeline_core.specs.StageFacts.{EffectFits, StoredFits};
 ghost use Rattle.pipeline_core.specs.StageFacts.{WrittenFits};
-ghost use Rattle.rv_exec.specs.Line.{IsPrintableEvent};
-ghost use Rattle.core_model.specs.Cycles.{cycles_to_w};
 
 use crate::stage_register::StageRegister;
-use core_model::CYCLES_TO_W;
 use pipe_model::{Held, Stored, Written};
 use regfile_bank::Bank;
-use rv_exec::{Effect, Event};
-
-/// The event that retires in a cycle, if there is one: the event of the turn in `m`, which was
-/// issued [`CYCLES_TO_W`] cycles ago.
-#[inline(always)]
-#[tactic(auto, unfolding(pipe_model::specs::Stages::retired_event))]
-pub fn retire(m: &StageRegister<Stored>, cycle: u64) -> Option<Event>
-    requires { StoredFits (held m.now) }
-    ensures event { result ≡ retired_event (cycle - cycles_to_w) (held m.now) }
-    ensures printable { IsPrintableEvent result }
-{
-    if !m.is_issue() {
-        return None;
-    }
-    Some(Event {
-        cycle: cycle.saturating_sub(CYCLES_TO_W),
-        thread: m.turn,
-        pc: m.what.pc,
-        word: m.what.word,
-        effect: m.what.effect?,
-    })
-}
+use rv_exec::Effect;
 
 /// Writes the destination register of a CSR access. It is rare, and a separate function so that the
 /// common path doesn't pay for it.

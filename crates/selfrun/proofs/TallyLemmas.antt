@@ -1,5 +1,5 @@
 -- The tallies, by the events of a world.
-use Rattle.std.proofs.Common.{◌≡◌, ◌≢◌, ℕ, zero, suc, ◌+◌, ◌-◌, ◌<◌, ◌≤◌, List, []}
+use Rattle.std.proofs.Common.{◌≡◌, ◌≢◌, ℕ, zero, suc, ◌+◌, ◌-◌, ◌%◌, ◌^◌, ◌<◌, ◌≤◌, List, []}
 use Rattle.std.proofs.Common.{◌∷◌, ◌++◌, length, Bool, true, Option, Some, None, eq-eqb}
 use Rattle.std.proofs.Common.{inl, inr, arith, refl, ap, sym, subst, ◌∙◌, add-one}
 use Rattle.std.specs.Prelude.{◌==◌, if◌then◌else◌, map, fold, slice_set}
@@ -15,11 +15,8 @@ use Rattle.trace_print.specs.Text.{line_text, text}
 use Rattle.core_model.specs.World.{Start, recent, world, events}
 use Rattle.pipe_model.specs.Relation.{of_thread, event_in, turn_at}
 use Rattle.pipe_model.specs.PipelineLaws.{EventsGrow}
-use Rattle.pipe_model.specs.declared.stage_registers.Held.{Held}
-use Rattle.pipe_model.specs.declared.stage_registers.Written.{Written}
-use Rattle.pipeline_core.specs.declared.stages.Stages.{Stages}
-use Rattle.pipeline_core.specs.Abstraction.{abstract_stages, registers_in}
-use Rattle.machine.specs.WorldRelation.{Refines, RefinesWith, TicksWith, start_beside}
+use Rattle.machine.specs.Observing.{HasSeen, next_with, observer_after, retires}
+use Rattle.machine.specs.WorldRelation.{Refines, start_beside}
 use Rattle.fp_image.specs.declared.parts.Segment.{Segment}
 use Rattle.fp_setup.specs.Settings.{Settings}
 use Rattle.fp_setup.specs.Plain.{plain_threads}
@@ -29,7 +26,9 @@ use Rattle.machine.specs.declared.state.Machine.{Machine}
 use Rattle.selfrun.specs.declared.tally.Tally.{Tally}
 use Rattle.selfrun.specs.Text.{with_byte, fold_of, tally_of, no_tally}
 use Rattle.selfrun.specs.Text.{tally_at, own_start, own_tallies}
-use Rattle.selfrun.specs.Counting.{with_event, tallies_with, AreFew, tallies_of, HasTallied}
+use Rattle.selfrun.specs.Counted.{count_acts, counted}
+use Rattle.selfrun.specs.Counting.{with_event, tallies_with, AreFew, tallies_of}
+use Rattle.selfrun.specs.declared.running.Count.{Count}
 
 tally-nil : tally_of [] ≡ no_tally
 unfolding tally_of fold_of
@@ -121,45 +120,15 @@ no_events : (s : Start) (i : ℕ) → events s i 0 ≡ []
 unfolding world recent
 no_events s i = refl
 
-pub tallies_begin : (s : Start) (n : ℕ) (stages : Stages) (m : Machine) (rows : List (Option Row))
-    (ts : List Tally) → ts ≡ map (λ k. no_tally) the_threads →
-    registers_in stages m.pipe.w ≡ abstract_stages m.pipe → Refines s 0 n m rows →
-    HasTallied s 0 n stages m rows ts
-tallies_begin s n stages m rows ts none same_stages st =
+tallies_begin : (s : Start) → map (λ k. no_tally) the_threads ≡ tallies_of s 0
+tallies_begin s =
     let zero_of : (k : ℕ) → tally_of (events s k 0) ≡ no_tally =
     λ k. ap tally_of (no_events s k) ∙ tally-nil in
     let same : map (λ k. tally_of (events s k 0)) (range_with_len 0 8)
     ≡ slice_set (map (λ k. no_tally) (range_with_len 0 8)) 8 no_tally =
     one_changed (λ k. no_tally) (λ k. tally_of (events s k 0)) no_tally 0 8 8
     (λ k ne. zero_of k) (λ below. zero_of 8) in
-    record {
-      w = m.pipe.w;
-      refines = subst (λ p. RefinesWith s 0 n p m rows) (sym same_stages) st;
-      are = none ∙ sym same;
-    }
-
--- one more cycle
-pub tallies_on : EventsGrow → (s : Start) (k n : ℕ) (stages next : Stages) (written : Held Written)
-    (m after : Machine) (rows new : List (Option Row)) (ts : List Tally) (event : Option Event) →
-    HasTallied s k n stages m rows ts → m.at ≡ k →
-    ((w : Held Written) → RefinesWith s m.at n (registers_in stages w) m rows →
-    TicksWith s m.at n rows (registers_in next written) after new event) →
-    HasTallied s (k + 1) n next after new (tallies_with ts event)
-tallies_on grows s k n stages next written m after rows new ts event run at tick =
-    let At : ℕ → Type 0 = λ c. RefinesWith s c n (registers_in stages run.w) m rows in
-    let After : ℕ → Type 0 =
-    λ c. TicksWith s c n rows (registers_in next written) after new event in
-    let ticked : TicksWith s k n rows (registers_in next written) after new event =
-    subst After at (tick run.w (subst At (sym at) run.refines)) in
-    let done : HasTallied s (suc k) n next after new (tallies_with ts event) = record {
-      w = written;
-      refines = ticked.refines;
-      are =
-          ap (λ xs. tallies_with xs event) run.are
-          ∙ sym (next_tallies grows s k event ticked.event_is);
-    } in
-    let Run : ℕ → Type 0 = λ c. HasTallied s c n next after new (tallies_with ts event) in
-    subst Run (sym (add-one k)) done
+    sym same
 
 few_set : (ts : List Tally) (i : ℕ) (v : Tally) (most : ℕ) → AreFew ts most → v.events ≤ most →
     AreFew (slice_set ts i v) most
@@ -177,7 +146,7 @@ few_set (t ∷ ts) (suc i) v most few small = tail (few_set ts i v most (λ j. f
     tail rest (suc k) = rest k
 
 -- in a cycle at most one event is counted
-pub few_more : (ts : List Tally) (event : Option Event) (most : ℕ) → AreFew ts most →
+few_more : (ts : List Tally) (event : Option Event) (most : ℕ) → AreFew ts most →
     AreFew (tallies_with ts event) (most + 1)
 few_more ts None most few = λ k. let small : (tally_at ts k).events ≤ most = few k in omega arith
 few_more ts (Some e) most few =
@@ -185,7 +154,7 @@ few_more ts (Some e) most few =
     (λ k. let small : (tally_at ts k).events ≤ most = few k in omega arith)
     (let small : (tally_at ts e.thread).events ≤ most = few e.thread in omega arith)
 
-pub few_none : AreFew (map (λ k. no_tally) the_threads) 0
+few_none : AreFew (map (λ k. no_tally) the_threads) 0
 few_none zero = omega arith
 few_none (suc zero) = omega arith
 few_none (suc (suc zero)) = omega arith
@@ -195,6 +164,57 @@ few_none (suc (suc (suc (suc (suc zero))))) = omega arith
 few_none (suc (suc (suc (suc (suc (suc zero)))))) = omega arith
 few_none (suc (suc (suc (suc (suc (suc (suc zero))))))) = omega arith
 few_none (suc (suc (suc (suc (suc (suc (suc (suc k)))))))) = omega arith
+
+-- after n cycles no tally has more than n events
+tallies_few : EventsGrow → (s : Start) (n : ℕ) → AreFew (tallies_of s n) n
+tallies_few grows s zero = subst (λ ts. AreFew ts 0) (tallies_begin s) few_none
+tallies_few grows s (suc n) =
+    let e : Option Event = retires s n in
+    let more : AreFew (tallies_with (tallies_of s n) e) (n + 1) =
+    few_more (tallies_of s n) e n (tallies_few grows s n) in
+    subst (λ k. AreFew (tallies_of s (suc n)) k) (add-one n)
+    (subst (λ ts. AreFew ts (n + 1)) (sym (next_tallies grows s n e refl)) more)
+
+-- a count of few events doesn't wrap
+counted_is : (t : Tally) (e : Event) → t.events ≤ 100000 → counted t e ≡ with_event t e
+counted_is t e few =
+    let Made : ℕ → Tally = λ n. record { events = n; fold = fold_of t.fold (line_text e) } in
+    ap Made (let same : (t.events + 1) % 2 ^ 32 ≡ t.events + 1 = omega (arith, few) in same)
+
+count_with : (o : Count) (e : Option Event) → AreFew o.tallies 100000 →
+    (next_with count_acts o e).tallies ≡ tallies_with o.tallies e
+count_with o None few = refl
+count_with o (Some e) few =
+    ap (λ t. slice_set o.tallies e.thread t)
+    (counted_is (tally_at o.tallies e.thread) e (few e.thread))
+
+-- the tallies of the observer are those of the world
+count_after : EventsGrow → (s : Start) (o : Count) (n : ℕ) →
+    o.tallies ≡ map (λ k. no_tally) the_threads → n ≤ 100000 →
+    (observer_after count_acts s 0 o n).tallies ≡ tallies_of s n
+count_after grows s o zero none few = none ∙ tallies_begin s
+count_after grows s o (suc n) none few =
+    let now : Count = observer_after count_acts s 0 o n in
+    let there : 0 + n ≡ n = omega arith in
+    let so_far : now.tallies ≡ tallies_of s n = count_after grows s o n none (omega (arith, few)) in
+    let all_few : AreFew (tallies_of s n) 100000 =
+    λ k. let small : (tally_at (tallies_of s n) k).events ≤ n = tallies_few grows s n k in
+    omega (arith, few, small) in
+    count_with now (retires s (0 + n)) (subst (λ ts. AreFew ts 100000) (sym so_far) all_few)
+    ∙ ap (λ ts. tallies_with ts (retires s (0 + n))) so_far
+    ∙ ap (λ c. tallies_with (tallies_of s n) (retires s c)) there
+    ∙ sym (next_tallies grows s n (retires s n) refl)
+
+pub count_ends : EventsGrow → (s : Start) (at n : ℕ) (first now : Count)
+    (before after : Option (List ℕ)) → at ≡ 0 →
+    first.tallies ≡ map (λ k. no_tally) the_threads → n ≤ 100000 →
+    HasSeen count_acts s at n first now before after → now.tallies ≡ tallies_of s n
+count_ends grows s at n first now before after start none few seen =
+    let all : n - at ≡ n = omega (arith, start) in
+    ap (λ (x : Count). x.tallies) seen.is
+    ∙ ap (λ k. (observer_after count_acts s at first k).tallies) all
+    ∙ ap (λ c. (observer_after count_acts s c first n).tallies) start
+    ∙ count_after grows s first n none few
 
 -- without ports no input is fed
 beside_none : (number n : ℕ) →
@@ -226,6 +246,7 @@ own_run number n setup image rows m ts same_setup same_image same_rows refines r
     (subst C same_image (subst D same_setup (refines no_ports n refl)))))
     ∙ own_tallies_are number n is
 
-pub tallies_end : (s : Start) (k n : ℕ) (stages : Stages) (m : Machine) (rows : List (Option Row))
-    (ts : List Tally) → k ≡ n → HasTallied s k n stages m rows ts → ts ≡ tallies_of s n
-tallies_end s k n stages m rows ts end run = run.are ∙ ap (λ c. tallies_of s c) end
+-- a machine at its start refines its current cycle
+pub at_start : (s : Start) (n : ℕ) (m : Machine) (rows : List (Option Row)) → m.at ≡ 0 →
+    Refines s 0 n m rows → Refines s m.at n m rows
+at_start s n m rows start st = subst (λ a. Refines s a n m rows) (sym start) st

@@ -1,13 +1,6 @@
 -- How the tallies of the threads grow as events retire.
-use Rattle.std.specs.Prelude.{◌≡◌, ℕ, ◌+◌, ◌≤◌, List, slice_set, map, Option, Some, None}
-use Rattle.fp_ports.specs.PluggedPorts.{Row}
+use Rattle.std.specs.Prelude.{ℕ, ◌+◌, ◌≤◌, List, slice_set, map, Option, Some, None}
 use Rattle.fp_setup.specs.SetupOfTables.{the_threads}
-use Rattle.pipe_model.specs.declared.stage_registers.Held.{Held}
-use Rattle.pipe_model.specs.declared.stage_registers.Written.{Written}
-use Rattle.pipeline_core.specs.declared.stages.Stages.{Stages}
-use Rattle.pipeline_core.specs.Abstraction.{registers_in}
-use Rattle.machine.specs.WorldRelation.{RefinesWith}
-use Rattle.machine.specs.declared.state.Machine.{Machine}
 use Rattle.rv_exec.specs.declared.outcome.Event.{Event}
 use Rattle.trace_print.specs.Text.{line_text}
 use Rattle.core_model.specs.World.{Start, events}
@@ -31,11 +24,3 @@ AreFew tallies most = (k : ℕ) → (tally_at tallies k).events ≤ most
 -- the tallies of the first n cycles of a world
 abbrev pub tallies_of : Start → ℕ → List Tally
 tallies_of s n = map (λ k. tally_of (events s k n)) the_threads
-
--- after c cycles of a run of n, the machine with these stage registers and some turn in w refines
--- that cycle, and the tallies are those of the world
-pub record HasTallied (s : Start) (c n : ℕ) (stages : Stages) (m : Machine)
-    (ports : List (Option Row)) (tallies : List Tally) : Type 0 where
-  pub w : Held Written
-  pub refines : RefinesWith s c n (registers_in stages w) m ports
-  pub are : tallies ≡ tallies_of s c

@@ -2,6 +2,7 @@ pub mod Drawn
 pub mod Text
 pub mod Folds
 pub mod Counting
+pub mod Counted
 pub use Rattle.fp_io.specs.Causes
 pub use Rattle.fp_io.specs.Content
 pub use Rattle.rv_decode.specs.Range

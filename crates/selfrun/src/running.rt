@@ -1,39 +1,30 @@
 //! The run.
 
-ghost use Rattle.std.specs.Prelude.{◌≡◌, ℕ, ◌-◌, ◌<◌, ◌≤◌, ◌^◌, List, Option};
+ghost use Rattle.std.specs.Prelude.{◌≡◌, ℕ, ◌<◌, ◌≤◌, List, Option};
 ghost use Rattle.std.specs.Prelude.{length, vec_len, OnOk, OnErr, IfOk};
 ghost use Rattle.std.specs.Io.KnownBytes.{Appends};
 ghost use Rattle.fp_io.specs.Causes.{Rose};
 ghost use Rattle.fp_io.specs.Content.{AppendsFront};
 ghost use Rattle.fp_ports.specs.PluggedPorts.{Row, rows_of};
 ghost use Rattle.setup_model.specs.Start.{no_ports};
-ghost use Rattle.pipe_model.specs.Stages.{retired_event};
-ghost use Rattle.pipeline_core.specs.Turns.{held};
-ghost use Rattle.pipeline_core.specs.StageFacts.{StoredFits};
 ghost use Rattle.core_model.specs.World.{Start};
 ghost use Rattle.machine.specs.WorldRelation.{Refines, start_beside};
 ghost use Rattle.selfrun.specs.Drawn.{own_setup, programs};
-ghost use Rattle.selfrun.specs.Counting.{AreFew, tallies_with, tallies_of};
+ghost use Rattle.selfrun.specs.Counting.{tallies_of};
 ghost use Rattle.selfrun.specs.Text.{own_tallies, selfrun_text, tallies_text, tally_at};
 ghost use Rattle.selfrun.specs.Text.{tally_line, own_cycles};
-ghost use Rattle.core_model.specs.Cycles.{cycles_to_w};
 
 use crate::drawing::{drawn_image, own_setup};
 use crate::line_fold::LineFolder;
 use crate::tally::Tally;
-use core_model::CYCLES_TO_W;
 use fp_io::{PutFailed, Sink};
 use fp_ports::Ports;
-use machine::Machine;
-use pipe_model::{Stored, events_grow};
-use pipeline_core::{StageRegister, Stages};
+use machine::{Machine, Nowhere, Observer};
+use pipeline_core::{StageRegister, Stored};
 use std::alloc::{AllocError, Global};
 
 /// The number of cycles that the machine runs.
 const CYCLES: u64 = 100_000;
-
-/// The loop number of [`tallies`].
-const SELFRUN: u8 = 2;
 
 /// Eight ports that aren't there.
 fn no_ports(alloc: Global) -> Result<Ports, AllocError>
@@ -47,26 +38,38 @@ fn no_ports(alloc: Global) -> Result<Ports, AllocError>
     Ok(ports)
 }
 
-/// Counts the event of the turn that retires in a cycle, if it has one; the turn was issued
-/// [`CYCLES_TO_W`] cycles ago. It reads the turn in place, so that no event is made.
-#[inline(always)]
-#[tactic(auto, unfolding(pipe_model::specs::Stages::retired_event))]
-fn count(tallies: &mut [Tally; 8], folder: &mut LineFolder, m: &StageRegister<Stored>, cycle: u64)
-    requires few { AreFew tallies.old (own_cycles - 1) }
-    requires fits { StoredFits (held m.now) }
-    requires cycle { cycle < 10 ^ 10 }
-    ensures { tallies.new ≡ tallies_with tallies.old (retired_event
-        (cycle - cycles_to_w) (held m.now)) }
-{
-    if !m.is_issue() {
-        return;
+/// Counts the events of each thread. It reads them where they are, so that none is made.
+#[derive(Drop)]
+struct Count {
+    tallies: [Tally; 8],
+    folder: LineFolder,
+}
+
+impl Observer for Count {
+    ghost use Rattle.selfrun.specs.Counted.{count_acts};
+
+    ghost acts = { count_acts };
+
+    #[inline(always)]
+    fn retire(&mut self, turn: &StageRegister<Stored>, cycle: u64) -> bool {
+        if let Some(it) = turn.retired(cycle) {
+            let tally = &mut self.tallies[usize::from(it.thread)];
+            tally.add(
+                &mut self.folder,
+                it.cycle,
+                it.thread,
+                it.pc,
+                it.word,
+                it.effect,
+            );
+        }
+        false
     }
-    let Some(effect) = &m.what.effect else {
-        return;
-    };
-    let tally = &mut tallies[usize::from(m.turn)];
-    let issued = cycle.saturating_sub(CYCLES_TO_W);
-    tally.add(folder, issued, m.turn, m.what.pc, m.what.word, effect);
+
+    #[inline(always)]
+    fn write<K: Sink>(&self, _out: &mut K) -> Result<(), PutFailed> {
+        Ok(())
+    }
 }
 
 /// The machine with the drawn programs, at its start.
@@ -81,7 +84,7 @@ fn own_machine(alloc: Global, number: u32) -> Result<Machine, AllocError>
 }
 
 /// Runs a machine for a number of cycles from its start, and counts the events of each thread as
-/// they retire. Afterwards the machine's `pipe` is still that of the start.
+/// they retire.
 fn tallies(machine: &mut Machine, cycles: u64, ports: &mut Ports) -> [Tally; 8]
     requires start { machine.old.at ≡ 0 }
     requires limit { cycles ≤ own_cycles }
@@ -89,16 +92,12 @@ fn tallies(machine: &mut Machine, cycles: u64, ports: &mut Ports) -> [Tally; 8]
     ensures { (s : Start) → Refines s 0 cycles machine.old
         (rows_of latched word_at ports.old.items) → result ≡ tallies_of s cycles }
 {
-    events_grow();
-    let mut tallies = [Tally { events: 0, fold: 0 }; 8];
-    let mut folder = LineFolder::new();
-    let loses_ports = machine.loses_ports();
-    let mut stages = Stages::of(&machine.pipe);
-    for _cycle in 0..cycles {
-        count(&mut tallies, &mut folder, &stages.m, machine.at);
-        let _event = machine.tick_stages::<SELFRUN>(&mut stages, ports, loses_ports);
-    }
-    tallies
+    let mut count = Count {
+        tallies: [Tally { events: 0, fold: 0 }; 8],
+        folder: LineFolder::new(),
+    };
+    let _done = machine.run_with(cycles, ports, &mut count, &mut Nowhere);
+    count.tallies
 }
 
 /// The tallies of the threads in the machine's own run.

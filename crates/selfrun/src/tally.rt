@@ -2,8 +2,8 @@
 
 ghost use Rattle.std.specs.Prelude.{◌≡◌, ◌<◌, ◌^◌};
 ghost use Rattle.rv_exec.specs.Line.{IsPrintable};
-ghost use Rattle.selfrun.specs.Counting.{with_event};
-ghost use Rattle.selfrun.specs.Text.{own_cycles, tally_line};
+ghost use Rattle.selfrun.specs.Counted.{counted};
+ghost use Rattle.selfrun.specs.Text.{tally_line};
 
 use crate::line_fold::LineFolder;
 use arrayvec::ArrayString;
@@ -20,7 +20,7 @@ pub struct Tally {
 }
 
 impl Tally {
-    /// Counts an event.
+    /// Counts an event. The count wraps, which no run of the machine's own comes to.
     #[inline(always)]
     pub(crate) fn add(
         &mut self,
@@ -31,11 +31,10 @@ impl Tally {
         word: u32,
         effect: &Effect,
     )
-        requires few { self.old.events < own_cycles }
         requires cycle { cycle < 10 ^ 10 }
         requires thread { thread < 8 }
         requires printable { IsPrintable effect.now }
-        ensures { self.new ≡ with_event self.old (record {
+        ensures { self.new ≡ counted self.old (record {
           cycle = cycle;
           thread = thread;
           pc = pc;
@@ -43,7 +42,7 @@ impl Tally {
           effect = effect.now;
         }) }
     {
-        self.events += 1;
+        self.events = self.events.wrapping_add(1);
         self.fold = folder.line(self.fold, cycle, thread, pc, word, effect);
     }
 

@@ -23,8 +23,8 @@ use slot_table::SlotTable;
 use timer_unit::Timers;
 use trap_unit::Traps;
 
-/// The loop number of a run of one thread.
-const SOLO: u8 = 3;
+/// The loop of a run of one thread.
+struct Solo;
 
 /// A thread between two of its instructions, with the units that these work on. It uses its own
 /// rows of the units. It is confined, and has no permit to read or write slots, modes and regions.
@@ -118,7 +118,7 @@ impl ThreadState {
             timers: &mut self.timers,
             traps: &mut self.traps,
         };
-        execute_in::<SOLO>(&mut hart, at, expired, sources)
+        execute_in::<Solo>(&mut hart, at, expired, sources)
     }
 
     /// The effect of an executed instruction, with its late value. Only a load reads a device.

@@ -1,21 +1,14 @@
-use Rattle.std.proofs.Common.{◌≡◌, length, refl, arith, ◌∙◌}
-use Rattle.std.proofs.lemmas.List.{length-map}
-use Rattle.machine.proofs.RunLemmas.{ticks}
-use Rattle.machine.proofs.WordLemmas.{cycle_words}
+-- A tick is a run of one cycle.
+use Rattle.std.proofs.Common.{rules}
+use Rattle.machine.proofs.AdvanceLemmas.{given_ticks}
+use Rattle.machine.proofs.RunLemmas.{ticks_given_back, ticks_of_run}
 use Rattle.machine.proofs.state.Machine.tick.Goals as goal
 
 pub returns-clause-relation : goal.returns-clause-relation
-returns-clause-relation g c =
-    let same : length c.args.ports.now.items ≡ 8 = omega arith in
-    λ s n within st.
-    ticks s n _ _ c.args.self.now _ _ _ _ c.tick-event.result (length-map c.args.ports.now.items _
-    ∙ same) c.take_if_any.ensures.rows within st (c.tick-event.ensures.relation s) refl refl
-
-pub returns-clause-words : goal.returns-clause-words
-returns-clause-words g c =
-    let same : length c.args.ports.now.items ≡ 8 = omega arith in
-    cycle_words c.args.self.now _ _ _ _ (length-map c.args.ports.now.items _ ∙ same)
-    c.take_if_any.ensures.rows c.tick-event.ensures.step
-
-pub returns-clause-at : goal.returns-clause-at
-returns-clause-at g c = refl
+returns-clause-relation g c s n within st =
+    given_ticks s c.args.self.now.at n _ _ c.event-event.result c.self-1.given.0 c.finish.new.self.0
+    (ticks_of_run s n c.of-stages.result c.args.self.now c.finish.new.self.0 _ _ _ _
+    c.of-stages.ensures c.event-event.ensures.event st
+    (λ w here. ticks_given_back s c.args.self.now.at n _ c.last-w.new.self.machine.now
+    c.finish.new.self.0 _ _ _ c.finish.ensures.stages c.finish.ensures.same
+    (c.last-w.ensures.relation s n w within here))) (search rules)
