@@ -1,0 +1,3 @@
+pub mod Lags
+pub mod Heat
+pub mod Rest

@@ -3,3 +3,4 @@ pub mod Heating
 pub mod Motion
 pub mod Tables
 pub mod Recordings
+pub mod PlantLaws

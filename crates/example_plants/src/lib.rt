@@ -4,6 +4,7 @@
 
 mod body;
 mod lag;
+pub mod laws;
 mod motor;
 mod recorded;
 mod table;

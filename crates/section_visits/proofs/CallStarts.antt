@@ -18,10 +18,10 @@ use Rattle.section_visits.specs.SetupInSettings.{CallVisitsStayBoundedInSettings
 use Rattle.section_visits.specs.SetupInSettings.{CallVisitsStayBoundedWhileScheduled}
 use Rattle.section_visits.specs.SetupInSettings.{HasSameWordsOfParts}
 
-alike-words : (x : Calls) (m : Machine) (n : ℕ) → IsListing x → KeepsRules m.setup →
+pub alike-call-words : (x : Calls) (m : Machine) (n : ℕ) → IsListing x → KeepsRules m.setup →
     HasSameWordsOfParts m x → HasWordsOfParts (start m.setup m.image m.ports n) x
 unfolding start
-alike-words x m n is rules h = record {
+alike-call-words x m n is rules h = record {
   eight = length-map m.setup.threads _ ∙ rules.threads.eight;
   same_words =
       λ u met lt.
@@ -32,7 +32,7 @@ alike-words x m n is rules h = record {
 pub call_visits_in_settings : CallVisitsAreBoundedInSettings → CallVisitsStayBoundedInSettings
 call_visits_in_settings law x slots i b m n is ok most rules h last before here v comes keeps =
     law x slots i b (start m.setup m.image m.ports n) n is ok most
-    (alike-words x m n is rules h) last before here v comes keeps
+    (alike-call-words x m n is rules h) last before here v comes keeps
 
 pub call_visits_by_phases : CallVisitsStayBoundedInSettings → SettingsOfPicks →
     CallVisitsStayBoundedByPhases

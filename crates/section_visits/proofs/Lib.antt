@@ -1,12 +1,12 @@
 mod Instructions
 mod Cycles
-mod Linking
-mod Scheduled
+pub mod Linking
+pub mod Scheduled
 mod Links
 mod Visited
 mod Rows
 mod Returns
 mod CallVisited
 mod CallBounded
-mod Starts
-mod CallStarts
+pub mod Starts
+pub mod CallStarts

@@ -68,7 +68,7 @@ pub size-even : (version : ℕ) → (version ≡ 1) ⊎ (version ≡ 2) → size
 size-even version (inl e) = rw e refl
 size-even version (inr e) = rw e refl
 
-alike-words : (setup : Settings) (image : List Segment) (s : Section) (m : Machine) (n : ℕ) →
+pub alike-words : (setup : Settings) (image : List Segment) (s : Section) (m : Machine) (n : ℕ) →
     IsTree (tree_in setup image s) → KeepsRules m.setup →
     HasSameWords m (tree_in setup image s) image →
     HasWords (start m.setup m.image m.ports n) (tree_in setup image s)

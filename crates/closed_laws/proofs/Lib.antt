@@ -1,0 +1,4 @@
+pub mod Starts
+pub mod Retired
+pub mod InLoops
+pub mod Bounded
