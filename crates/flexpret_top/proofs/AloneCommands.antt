@@ -2,7 +2,6 @@
 use Rattle.std.proofs.Common.{◌≡◌, ℕ, ◌<◌, ◌≤◌, get_or, length, List, [], Option, Some, None}
 use Rattle.std.proofs.Common.{Result, Ok, Err, refl, ap, sym, subst, ◌∙◌, arith, inl, inr}
 use Rattle.std.specs.Prelude.{IfSome, slice_get}
-use Rattle.ask_words.specs.declared.asked.Ask.{Ask}
 use Rattle.ask_words.specs.declared.asked.Ask.TheVariants.{Solo, Check}
 use Rattle.core_model.specs.Solo.{solo}
 use Rattle.core_model.specs.View.{View}
@@ -21,7 +20,6 @@ use Rattle.trace_print.specs.Text.{text}
 use Rattle.core_model.specs.Viewed.{view}
 use Rattle.command_files.specs.declared.program.Program.{Program}
 use Rattle.flexpret_top.specs.declared.ready.Alone.{Alone}
-use Rattle.flexpret_top.specs.declared.ready.Prepared.{Prepared}
 use Rattle.flexpret_top.specs.declared.ready.Prepared.TheVariants as prepared
 use Rattle.command_files.specs.declared.stop.Stop.{Stop}
 use Rattle.command_files.specs.declared.stop.Stop.TheVariants.{Refused, Differs, Read, NoMemory}

@@ -2,7 +2,7 @@
 use Rattle.std.proofs.Common.{◌≡◌, ℕ, zero, suc, ◌+◌, ◌-◌, ◌*◌, ◌<◌, ◌≤◌, Bool, true}
 use Rattle.std.proofs.Common.{false, cond, nat_eq, if◌then◌else◌, List, [], ◌∷◌, ◌++◌}
 use Rattle.std.proofs.Common.{length, take, drop, map, get_or, set, take-append-drop, find}
-use Rattle.std.proofs.Common.{is_some, nat_le, option_map, reverse, ap₂, Option, Some, None}
+use Rattle.std.proofs.Common.{nat_le, option_map, reverse, ap₂, Option, Some, None}
 use Rattle.std.proofs.Common.{Result, Ok, Err, refl, ap, sym, subst, ◌∙◌, arith, inl, inr}
 use Rattle.std.specs.Prelude.{IfSome, IsSomeAnd, IfErr, OnOk}
 use Rattle.std.specs.List.{AllWithin, slice_get}
@@ -18,8 +18,8 @@ use Rattle.std.proofs.lemmas.List.{reverse-append, set-set}
 use Rattle.std.proofs.lemmas.List.Folds.{find-append}
 use Rattle.std.specs.Option.{option_or}
 use Rattle.core_model.specs.View.{View}
-use Rattle.fp_ports.specs.PluggedPorts.{row_of, rows_of, word_seen}
-use Rattle.fp_ports.specs.ShownWords.{input_at, is_gone, shown_at}
+use Rattle.fp_ports.specs.PluggedPorts.{row_of, rows_of}
+use Rattle.fp_ports.specs.ShownWords.{input_at}
 use Rattle.fp_setup.specs.declared.input_list.Input.{Input}
 use Rattle.fp_setup.specs.Inputs.{AreInputs}
 use Rattle.fp_image.specs.declared.parts.Segment.{Segment}

@@ -1,4 +1,4 @@
-use Rattle.std.proofs.Common.{rules, ◌≡◌, ◌⊎◌, ◌∙◌, ℕ, ap, inl, inr, refl, sym, subst, arith, map}
+use Rattle.std.proofs.Common.{rules, ◌≡◌, ◌⊎◌, ◌∙◌, ℕ, ap, inl, sym, subst, arith, map}
 use Rattle.std.specs.Prelude.{string_bytes}
 use Rattle.fp_ports.specs.PluggedPorts.{rows_of}
 use Rattle.flexpret_top.proofs.Ending.{apart-by, asked-by, asks-some, complete-of}
