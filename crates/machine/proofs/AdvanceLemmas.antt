@@ -257,8 +257,8 @@ pub ran_quietly : {O : Type 0} (acts : Acts O) (s : Start) (c n end : ℕ) (firs
     after.at ≡ m.at + 1 → after.at ≡ end → later ≡ next_with acts o event →
     puts_with acts o event ≡ [] →
     Refines s end n after new × HasSeen acts s c end first later before now
-ran_quietly acts s c n end first stages m after rows new o later event before now run tick at here is
-    none =
+ran_quietly acts s c n end first stages m after rows new o later event before now run tick at here
+    is none =
     let ticked : Ticks s m.at n rows after new event = tick run.w run.refines in
     let Here : ℕ → Type 0 = λ e. Refines s e n after new in
     let Seen : ℕ → Type 0 = λ e. HasSeen acts s c e first later before now in

@@ -169,7 +169,8 @@ ticks_given_back s c n q m after rows new event is same ticked =
     let With : Machine → Type 0 = λ x. RefinesWith s (suc c) n p x new in
     record {
       refines =
-          subst With (sym same) (subst (λ x. RefinesWith s (suc c) n x m new) (sym is) ticked.refines);
+          subst With (sym same) (subst (λ x. RefinesWith s (suc c) n x m new) (sym is)
+          ticked.refines);
       event_is = ticked.event_is;
       left = ticked.left;
     }

@@ -33,8 +33,8 @@ use rv_exec::Event;
 struct Last;
 
 /// A machine that runs, with its stage registers as the stages use them. The machine's own `pipe`
-/// is that of an earlier cycle meanwhile. A run isn't `Drop`: only `finish` ends it, which gives the
-/// machine its `pipe` back.
+/// is that of an earlier cycle meanwhile. A run isn't `Drop`: only `finish` ends it, which gives
+/// the machine its `pipe` back.
 pub(crate) struct Run<'a> {
     machine: &'a mut Machine,
     stages: &'a mut Stages,

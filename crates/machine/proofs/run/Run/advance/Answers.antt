@@ -86,7 +86,8 @@ loop-self-preserved g c =
             words = words_on _ _ _ inv.words cycle.words;
             advanced =
                 λ s from n first told taken within run. advanced_as g.O.Observer.acts s from n
-                first c.skip_sleep.new.self.stages.now later _ c.observe-puts.new.observer told taken _ _
+                first c.skip_sleep.new.self.stages.now later _ c.observe-puts.new.observer told
+                taken _ _
                 (sym w.paused-is)
                 (paused_as stays stayed
                 (runs_to_put g.O.Observer.acts s from n first c.loop-self.self.stages.now
@@ -114,10 +115,12 @@ loop-self-preserved g c =
         words = words_on _ _ _ inv.words cycle.words;
         advanced =
             λ s from n first told taken within run. advanced_as g.O.Observer.acts s from n
-            first c.skip_sleep.new.self.stages.now later _ c.observe-puts.new.observer told taken _ _
+            first c.skip_sleep.new.self.stages.now later _ c.observe-puts.new.observer told taken _
+            _
             (sym (w.paused-is ∙ quiet))
             (runs_pass g.O.Observer.acts s from n first c.tick.new.self.stages.now
-            c.skip_sleep.new.self.stages.now after later _ c.observe-puts.new.observer told taken skip.on
+            c.skip_sleep.new.self.stages.now after later _ c.observe-puts.new.observer told taken
+            skip.on
             (λ x. skip.passed s n _ x (as_within _ _ _ (w.stop-is ∙ whole) within)
             (length-map c.tick.new.ports.items _ ∙ eight))
             (runs_on g.O.Observer.acts s from n first c.loop-self.self.stages.now

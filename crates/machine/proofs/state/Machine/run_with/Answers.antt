@@ -1,7 +1,8 @@
 -- A run is all cycles but the last, and the last cycle.
 use Rattle.std.proofs.Common.{◌≡◌, ◌≢◌, ℕ, ◌+◌, ◌-◌, ◌≤◌, ◌<◌, arith, ap, ◌∙◌, rules}
-use Rattle.machine.proofs.AdvanceLemmas.{given_part, given_seen, ran_in_part, ran_nothing, ran_quietly, ran_to_put}
-use Rattle.machine.proofs.AdvanceLemmas.{runs_begin, runs_to_put, stopped_given_back}
+use Rattle.machine.proofs.AdvanceLemmas.{given_part, given_seen, ran_in_part, ran_nothing}
+use Rattle.machine.proofs.AdvanceLemmas.{ran_quietly, ran_to_put, runs_begin, runs_to_put}
+use Rattle.machine.proofs.AdvanceLemmas.{stopped_given_back}
 use Rattle.machine.specs.declared.state.Machine.{Machine}
 use Rattle.machine.proofs.OnResults.{map_err, map_ok}
 use Rattle.machine.proofs.RunLemmas.{ticks_given_back}
@@ -49,7 +50,8 @@ returns-then-puts-clause-ok g c =
     c.observe-puts.new.observer told
     (g.K.Sink.taken c.run_to.new.out) (g.K.Sink.taken c.write.new.out)
     (next c.args.self.now.at c.args.end at _ c.requires.begun c.if-self-end.false
-    c.in_default.ensures.cycles (ap (λ (m : Machine). m.at) c.finish-2.ensures.same ∙ c.last-w.ensures.at))
+    c.in_default.ensures.cycles (ap (λ (m : Machine). m.at) c.finish-2.ensures.same ∙
+    c.last-w.ensures.at))
     (runs_to_put acts s c.args.self.now.at n o c.run_to.new.self.stages.now _
     c.run_to.new.self.machine.now _ _ _ c.run_to.new.observer c.observe-puts.new.observer _ told
     (g.K.Sink.taken c.run_to.new.out)
@@ -59,7 +61,8 @@ returns-then-puts-clause-ok g c =
     c.finish-2.ensures.stages c.finish-2.ensures.same
     (c.last-w.ensures.relation s n w (in_reach c.args.self.now.at c.args.end at n c.requires.begun
     c.if-self-end.false c.in_default.ensures.cycles within) here))
-    (ap (λ (m : Machine). m.at) c.finish-2.ensures.same ∙ c.last-w.ensures.at) c.observe-puts.ensures.state
+    (ap (λ (m : Machine). m.at) c.finish-2.ensures.same ∙ c.last-w.ensures.at)
+    c.observe-puts.ensures.state
     (rw c.if-puts.true at c.observe-puts.ensures.bytes)) put) (search rules))
 
 pub returns-then-puts-clause-err : goal.returns-then-puts-clause-err
@@ -71,7 +74,8 @@ returns-then-puts-clause-err g c =
     map_err c.write.result _ _ c.write.ensures.err (λ put s n within st.
     given_part acts s c.args.self.now.at n o _ told (g.K.Sink.taken c.write.new.out)
     c.self-2-1.given.0 c.finish-2.new.self.0
-    (ran_in_part acts s c.args.self.now.at n o c.finish-2.new.self.0 _ c.observe-puts.new.observer told
+    (ran_in_part acts s c.args.self.now.at n o c.finish-2.new.self.0 _ c.observe-puts.new.observer
+    told
     (g.K.Sink.taken c.run_to.new.out) (g.K.Sink.taken c.write.new.out)
     (runs_to_put acts s c.args.self.now.at n o c.run_to.new.self.stages.now _
     c.run_to.new.self.machine.now _ _ _ c.run_to.new.observer c.observe-puts.new.observer _ told
@@ -82,7 +86,8 @@ returns-then-puts-clause-err g c =
     c.finish-2.ensures.stages c.finish-2.ensures.same
     (c.last-w.ensures.relation s n w (in_reach c.args.self.now.at c.args.end at n c.requires.begun
     c.if-self-end.false c.in_default.ensures.cycles within) here))
-    (ap (λ (m : Machine). m.at) c.finish-2.ensures.same ∙ c.last-w.ensures.at) c.observe-puts.ensures.state
+    (ap (λ (m : Machine). m.at) c.finish-2.ensures.same ∙ c.last-w.ensures.at)
+    c.observe-puts.ensures.state
     (rw c.if-puts.true at c.observe-puts.ensures.bytes)) put) (search rules))
 
 pub returns-clause-ok : goal.returns-clause-ok
@@ -94,7 +99,8 @@ returns-clause-ok g c s n within st =
     given_seen acts s c.args.self.now.at n c.args.end o c.observe-puts.new.observer _ told
     (g.K.Sink.taken c.run_to.new.out) c.self-2-1.given.0 c.finish-2.new.self.0
     (ran_quietly acts s c.args.self.now.at n c.args.end o c.run_to.new.self.stages.now
-    c.run_to.new.self.machine.now c.finish-2.new.self.0 _ _ c.run_to.new.observer c.observe-puts.new.observer _ told
+    c.run_to.new.self.machine.now c.finish-2.new.self.0 _ _ c.run_to.new.observer
+    c.observe-puts.new.observer _ told
     (g.K.Sink.taken c.run_to.new.out)
     (c.in_default.ensures.ok s c.args.self.now.at n o told (less c.args.end n within)
     (runs_begin acts s n o c.of-stages.result c.args.self.now _ told c.of-stages.ensures st))
@@ -102,8 +108,10 @@ returns-clause-ok g c s n within st =
     c.finish-2.ensures.stages c.finish-2.ensures.same
     (c.last-w.ensures.relation s n w (in_reach c.args.self.now.at c.args.end at n c.requires.begun
     c.if-self-end.false c.in_default.ensures.cycles within) here))
-    (ap (λ (m : Machine). m.at) c.finish-2.ensures.same ∙ c.last-w.ensures.at) (next c.args.self.now.at c.args.end at _ c.requires.begun
-    c.if-self-end.false c.in_default.ensures.cycles (ap (λ (m : Machine). m.at) c.finish-2.ensures.same ∙ c.last-w.ensures.at))
+    (ap (λ (m : Machine). m.at) c.finish-2.ensures.same ∙ c.last-w.ensures.at) (next
+    c.args.self.now.at c.args.end at _ c.requires.begun
+    c.if-self-end.false c.in_default.ensures.cycles (ap (λ (m : Machine). m.at)
+    c.finish-2.ensures.same ∙ c.last-w.ensures.at))
     c.observe-puts.ensures.state (rw c.if-puts.false at c.observe-puts.ensures.bytes))
     (search rules)
 
