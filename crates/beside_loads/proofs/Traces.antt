@@ -1,8 +1,11 @@
 -- A command wrote for a protected thread the text of the one-thread definition.
 use Rattle.std.proofs.Common.{◌≡◌, ℕ, List, [], ◌++◌, Bool, true, Option}
-use Rattle.std.proofs.Common.{Some, None, IfSome, ap, subst, sym, ◌∙◌}
+use Rattle.std.proofs.Common.{Some, None, IfSome, ap, subst, sym, ◌∙◌, ◌↔◌, ◌≢◌}
+use Rattle.flexpret_top.specs.Answer.{Answer, IsSaid}
+use Rattle.flexpret_top.specs.Answer.Answer.{Says, Missing}
 use Rattle.flexpret_top.specs.Ask.{Ask}
 use Rattle.flexpret_top.specs.Ask.TheVariants.{Run}
+use Rattle.flexpret_top.specs.Command.{IsAnswer, Said}
 use Rattle.flexpret_top.specs.Commands.{ask}
 use Rattle.flexpret_top.specs.Content.{FileMap}
 use Rattle.flexpret_top.specs.Headline.{IsWrittenAlone, WritesRetired, machine_of}
@@ -12,6 +15,16 @@ use Rattle.flexpret_top.specs.Text.{text}
 use Rattle.flexpret_top.specs.ThreadView.{View}
 use Rattle.flexpret_top.specs.TraceLaws.{view_of}
 use Rattle.beside_loads.specs.Loads.{IsProtected, IsSameBeside, IsTraceBeside}
+
+-- status 0 is none of those at which nothing is said
+pub not-seven : {s : ℕ} → s ≡ 0 → s ≢ 7
+not-seven zero seven = cc
+
+pub not-eight : {s : ℕ} → s ≡ 0 → s ≢ 8
+not-eight zero eight = cc
+
+pub not-nine : {s : ℕ} → s ≡ 0 → s ≢ 9
+not-nine zero nine = cc
 
 -- into a sink that was empty
 written : (asked : Option Ask) (files : FileMap) (ports : List (Option Row))
@@ -35,12 +48,37 @@ all-written None words ports before bytes empty wrote = tt
 all-written (Some files) words ports before bytes empty wrote =
     written (ask words) files ports before bytes empty wrote
 
+-- the text of an answer with status 0, into an empty sink
+said-text : (Is : Answer → Type 0) (status : ℕ) (before bytes : List ℕ) → before ≡ [] →
+    status ≡ 0 → Said Is status (Some before) (Some bytes) → Is (Says 0 bytes)
+said-text Is status before bytes empty zero h = go h.answer h.is h.said
+  where
+    go : (x : Answer) → Is x → IsSaid status (Some before) (Some bytes) x → Is (Says 0 bytes)
+    go (Says s text) is said =
+        let same : text ≡ bytes =
+        sym (ap (λ (xs : List ℕ). xs ++ text) empty) ∙ sym said.1 in
+        let none : s ≡ 0 = sym said.0 ∙ zero in
+        subst (λ (xs : List ℕ). Is (Says 0 xs)) same (subst (λ k. Is (Says k text)) none is)
+    go Missing is said = absurd said
+
+all-said : (told : Option FileMap) (words : List (List ℕ)) (ports : List (Option Row)) (status : ℕ)
+    (before bytes : List ℕ) → before ≡ [] → status ≡ 0 →
+    IfSome told (λ files. Said (IsAnswer words files ports) status (Some before) (Some bytes)) →
+    IfSome told (λ files. IsAnswer words files ports (Says 0 bytes))
+all-said None words ports status before bytes empty zero said = tt
+all-said (Some files) words ports status before bytes empty zero said =
+    said-text (IsAnswer words files ports) status before bytes empty zero said
+
 pub traced : (told : Option FileMap) (words : List (List ℕ))
-    (ports : List (Option Row)) (before bytes : List ℕ) → before ≡ [] →
+    (ports : List (Option Row)) (status : ℕ) (before bytes : List ℕ) → before ≡ [] →
+    IfSome told (λ files. Said (IsAnswer words files ports) status (Some before) (Some bytes)) →
+    status ≡ 0 →
     IfSome told (λ files. WritesRetired (ask words) files ports (Some before) (Some bytes)) →
     IsTraceBeside told words ports bytes
-traced told words ports before bytes empty wrote =
-    record { text_of = all-written told words ports before bytes empty wrote }
+traced told words ports status before bytes empty said zero wrote = record {
+  answer = all-said told words ports status before bytes empty zero said;
+  text_of = all-written told words ports before bytes empty wrote;
+}
 
 -- two traces of a protected thread
 both-same : (one other : Option FileMap) (words : List (List ℕ)) (ports ports' : List (Option Row))
@@ -59,8 +97,13 @@ both-same (Some f) (Some s) words ports ports' first second same compare a b =
 
 pub same_beside : (one other : Option FileMap) (words : List (List ℕ))
     (ports ports' : List (Option Row)) (first second : List ℕ) (same : Bool) →
-    (first ≡ second → same ≡ true) → IsTraceBeside one words ports first →
+    (same ≡ true) ↔ (first ≡ second) → IsTraceBeside one words ports first →
     IsTraceBeside other words ports' second → IsSameBeside one other words ports ports' same
 same_beside one other words ports ports' first second same compare a b = record {
-  always = both-same one other words ports ports' first second same compare a.text_of b.text_of;
+  first = first;
+  second = second;
+  with_one = a;
+  with_other = b;
+  exact = compare;
+  always = both-same one other words ports ports' first second same compare.1 a.text_of b.text_of;
 }

@@ -1,2 +1,3 @@
 pub mod Loads
+pub mod Bounds
 pub use Rattle.flexpret_top.specs.PluggedPorts

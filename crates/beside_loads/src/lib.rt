@@ -1,18 +1,20 @@
 //! An example of a program over the theorems of this project. It shows that a control thread has
-//! the same trace with any two loads.
+//! the same trace with any two loads, and that a bound of its code holds beside any load.
 //!
 //! Its line of crates.txt names only `flexpret_top`, which re-exports the definitions, theorems and
 //! types used here.
 
 #![tactic(auto)]
 
+mod bounds;
 #[cfg(test)]
 mod tests;
 
-ghost use Rattle.std.specs.Prelude.{◌≡◌, [], IfOk, map, string_bytes, true, vec_len};
+ghost use Rattle.std.specs.Prelude.{◌≡◌, ◌↔◌, [], IfOk, map, string_bytes, true, vec_len};
 ghost use Rattle.flexpret_top.specs.PluggedPorts.{rows_of};
 ghost use Rattle.beside_loads.specs.Loads.{IsSameBeside, IsTraceBeside};
 
+pub use bounds::bound_beside;
 use flexpret_top::{Files, MemSink, Ports, flexpret};
 use std::alloc::{AllocError, Global};
 
@@ -73,7 +75,7 @@ pub fn trace_beside<F: Files>(
 
 /// Whether two sinks have the same bytes.
 fn have_same(one: &MemSink, other: &MemSink) -> bool
-    ensures { one.now.bytes ≡ other.now.bytes → result ≡ true }
+    ensures { (result ≡ true) ↔ (one.now.bytes ≡ other.now.bytes) }
 {
     one.bytes() == other.bytes()
 }

@@ -113,3 +113,13 @@ fn a_refused_command_has_its_status(rt: HostRuntime) -> Result<(), Fail> {
     assert!(rt; matches!(missing, Err(NoTrace::Status(7))));
     Ok(())
 }
+
+#[test]
+fn the_loop_has_a_bound(rt: HostRuntime) -> Result<(), Fail> {
+    let alloc = rt.alloc();
+    let words = words_of(alloc, "bound a.toml --thread 0 --from 4 --to 12")?;
+    let mut files = files_with(alloc, STORES)?;
+    let line = bound_beside(alloc, &words, &mut files, &mut no_ports(alloc)?, ROOM)?;
+    assert!(rt; line.bytes() == b"bound 4\n".as_slice());
+    Ok(())
+}

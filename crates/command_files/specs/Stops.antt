@@ -41,11 +41,15 @@ abbrev pub IsStopIn : {A : Type 0} → Option FileMap → (FileMap → Result A 
     ℕ → Stop → Type 0
 IsStopIn told step before after stop = IsStop told (λ files x. step files ≡ Err x) before after stop
 
--- why a file isn't fetched: a read fault if a fault was counted or the file isn't there; out of
--- memory if no fault was counted and the files aren't known to lack the file
-abbrev pub IsFetchStop : Option FileMap → List ℕ → ℕ → ℕ → Stop → Type 0
-IsFetchStop told name before after stop =
-    ((stop ≡ NoMemory) × ((after ≡ before) × (¬ (Lacks told name))))
+-- files that look a name up before they take memory are known to lack it
+abbrev pub FindsNone : Type 0 → Option FileMap → List ℕ → Type 0
+FindsNone looks told name = looks × Lacks told name
+
+-- why a file isn't fetched: a read fault if a fault was counted or the file isn't there; else out
+-- of memory. Files that look names up first count no fault then, and aren't known to lack the file.
+abbrev pub IsFetchStop : Type 0 → Option FileMap → List ℕ → ℕ → ℕ → Stop → Type 0
+IsFetchStop looks told name before after stop =
+    ((stop ≡ NoMemory) × (looks → (after ≡ before) × (¬ (Lacks told name))))
     ⊎ ((stop ≡ Read) × (Rose before after ⊎ Lacks told name))
 
 -- why a file that isn't fetched stops a command

@@ -1,13 +1,13 @@
 //! The image of a source.
 
 ghost use Rattle.std.specs.Prelude.{◌≡◌, ◌≤◌, [], ◌∷◌, Ok, Err, IfOk, IfErr, IfSome};
-ghost use Rattle.fp_io.specs.Content.{Asks, Lacks};
+ghost use Rattle.fp_io.specs.Content.{Asks};
 ghost use Rattle.fp_image.specs.Format.{file_of};
 ghost use Rattle.command_files.specs.Answer.{on_file};
 ghost use Rattle.command_files.specs.Answer.Answer.{Says};
 ghost use Rattle.command_files.specs.Assembled.{asm_answer, source_in, source_request};
 ghost use Rattle.command_files.specs.Codes.{source_code};
-ghost use Rattle.command_files.specs.Stops.{IsStop, IsStopIn, IsStopOf, Makes};
+ghost use Rattle.command_files.specs.Stops.{FindsNone, IsStop, IsStopIn, IsStopOf, Makes};
 
 use crate::program::fetch;
 use crate::stop::Stop;
@@ -47,7 +47,7 @@ fn fetch_source<F: Files>(alloc: Global, name: &Name, files: &mut F) -> Result<I
     ensures counted { F.faults files.old ≤ F.faults files.new }
     ensures request { Asks (F.requests files.old) (F.requests files.new)
         (source_request name.now ∷ []) }
-    ensures missing { Lacks (F.told files.old) name.now → result ≡ Err Stop.Read }
+    ensures missing { FindsNone F.looks_first (F.told files.old) name.now → result ≡ Err Stop.Read }
     ensures ok { IfOk result (Makes (F.told files.old) (on_file source_in name.now)) }
     ensures stop { IfErr result (IsStopIn (F.told files.old) (on_file source_in name.now)
         (F.faults files.old) (F.faults files.new)) }
@@ -67,7 +67,7 @@ pub fn image_bytes<F: Files>(alloc: Global, name: &Name, files: &mut F) -> Resul
     ensures counted { F.faults files.old ≤ F.faults files.new }
     ensures request { Asks (F.requests files.old) (F.requests files.new)
         (source_request name.now ∷ []) }
-    ensures missing { Lacks (F.told files.old) name.now → result ≡ Err Stop.Read }
+    ensures missing { FindsNone F.looks_first (F.told files.old) name.now → result ≡ Err Stop.Read }
     ensures ok { IfOk result (λ bytes. IfSome (F.told files.old) (λ told.
         Says 0 bytes.items ≡ asm_answer told name.now)) }
     ensures stop { IfErr result

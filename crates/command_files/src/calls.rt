@@ -2,7 +2,7 @@
 
 ghost use Rattle.std.specs.Prelude.{◌≡◌, ◌≢◌, ◌<◌, ◌≤◌, [], ◌∷◌, None};
 ghost use Rattle.std.specs.Prelude.{Ok, Err, IfOk, IfErr, OnOk, IfSome};
-ghost use Rattle.fp_io.specs.Content.{Asks, Lacks};
+ghost use Rattle.fp_io.specs.Content.{Asks};
 ghost use Rattle.region_guard.specs.Regions.{IsSize};
 ghost use Rattle.region_tree.specs.Tree.{IsSection};
 ghost use Rattle.call_bounds.specs.CallRefusals.{IsCallable};
@@ -14,7 +14,8 @@ ghost use Rattle.command_files.specs.BoundAnswer.{section_fault};
 ghost use Rattle.command_files.specs.CallsAnswer.{IsCallsAnswer, IsListingAnswer, IsListingRefused};
 ghost use Rattle.command_files.specs.CallsAnswer.{routines_in, routines_request, section_listing};
 ghost use Rattle.command_files.specs.Codes.{routines_code};
-ghost use Rattle.command_files.specs.Stops.{IsAnswerStop, IsStop, IsStopIn, IsStopOf, Makes};
+ghost use Rattle.command_files.specs.Stops.{FindsNone, IsAnswerStop, IsStop};
+ghost use Rattle.command_files.specs.Stops.{IsStopIn, IsStopOf, Makes};
 ghost use Rattle.command_files.specs.BoundStops.{stop_of_calls};
 
 use crate::bound::{bound_stop, section_fault};
@@ -69,7 +70,7 @@ fn fetch_routines<F: Files>(
     ensures counted { F.faults files.old ≤ F.faults files.new }
     ensures request { Asks (F.requests files.old) (F.requests files.new)
         (routines_request name.now ∷ []) }
-    ensures missing { Lacks (F.told files.old) name.now → result ≡ Err Stop.Read }
+    ensures missing { FindsNone F.looks_first (F.told files.old) name.now → result ≡ Err Stop.Read }
     ensures ok { IfOk result (Makes (F.told files.old) (on_file (routines_in size) name.now)) }
     ensures stop { IfErr result (IsStopIn (F.told files.old) (on_file (routines_in size) name.now)
         (F.faults files.old) (F.faults files.new)) }
@@ -173,7 +174,7 @@ pub fn calls_bound<F: Files>(
     ensures request { section_fault program.now.setup thread section ≡ None →
         Asks (F.requests files.old) (F.requests files.new) (routines_request routines.now ∷ []) }
     ensures missing { section_fault program.now.setup thread section ≡ None →
-        Lacks (F.told files.old) routines.now → result ≡ Err Stop.Read }
+        FindsNone F.looks_first (F.told files.old) routines.now → result ≡ Err Stop.Read }
     ensures ok { IfOk result (λ cycles. IfSome (F.told files.old) (λ told.
         IsCallsAnswer (Ok program.now) thread section (told routines.now)
         (Says 0 (bound_text cycles)))) }

@@ -1,12 +1,12 @@
 //! The image of an executable.
 
 ghost use Rattle.std.specs.Prelude.{◌≡◌, ◌≤◌, [], ◌∷◌, Ok, Err, IfOk, IfErr, IfSome};
-ghost use Rattle.fp_io.specs.Content.{Asks, Lacks};
+ghost use Rattle.fp_io.specs.Content.{Asks};
 ghost use Rattle.command_files.specs.Answer.{on_file};
 ghost use Rattle.command_files.specs.Answer.Answer.{Says};
 ghost use Rattle.command_files.specs.Codes.{elf_code};
 ghost use Rattle.command_files.specs.Elf.{elf_answer, elf_in, executable_request};
-ghost use Rattle.command_files.specs.Stops.{IsStop, IsStopIn, IsStopOf, Makes};
+ghost use Rattle.command_files.specs.Stops.{FindsNone, IsStop, IsStopIn, IsStopOf, Makes};
 
 use crate::program::fetch;
 use crate::stop::Stop;
@@ -46,7 +46,7 @@ fn fetch_executable<F: Files>(alloc: Global, name: &Name, files: &mut F) -> Resu
     ensures counted { F.faults files.old ≤ F.faults files.new }
     ensures request { Asks (F.requests files.old) (F.requests files.new)
         (executable_request name.now ∷ []) }
-    ensures missing { Lacks (F.told files.old) name.now → result ≡ Err Stop.Read }
+    ensures missing { FindsNone F.looks_first (F.told files.old) name.now → result ≡ Err Stop.Read }
     ensures ok { IfOk result (Makes (F.told files.old) (on_file elf_in name.now)) }
     ensures stop { IfErr result (IsStopIn (F.told files.old) (on_file elf_in name.now)
         (F.faults files.old) (F.faults files.new)) }
@@ -66,7 +66,7 @@ pub fn imported_bytes<F: Files>(alloc: Global, name: &Name, files: &mut F) -> Re
     ensures counted { F.faults files.old ≤ F.faults files.new }
     ensures request { Asks (F.requests files.old) (F.requests files.new)
         (executable_request name.now ∷ []) }
-    ensures missing { Lacks (F.told files.old) name.now → result ≡ Err Stop.Read }
+    ensures missing { FindsNone F.looks_first (F.told files.old) name.now → result ≡ Err Stop.Read }
     ensures ok { IfOk result (λ bytes. IfSome (F.told files.old) (λ told.
         Says 0 bytes.items ≡ elf_answer told name.now)) }
     ensures stop { IfErr result

@@ -1,7 +1,7 @@
 //! The setup and the image that a command reads.
 
 ghost use Rattle.std.specs.Prelude.{◌≡◌, ◌≤◌, ◌<◌, ◌^◌, ◌-◌, [], ◌∷◌, Ok, Err, IfOk, IfErr};
-ghost use Rattle.fp_io.specs.Content.{Asks, Fetched, Lacks};
+ghost use Rattle.fp_io.specs.Content.{Asks, Fetched};
 ghost use Rattle.fp_setup.specs.Settings.{size_of};
 ghost use Rattle.region_guard.specs.Regions.{IsSize};
 ghost use Rattle.fp_image.specs.Format.{longest};
@@ -9,7 +9,8 @@ ghost use Rattle.command_files.specs.Answer.{on_file};
 ghost use Rattle.command_files.specs.Codes.{setup_code, image_code};
 ghost use Rattle.command_files.specs.Program.{IsProgramAsked, image_in, program};
 ghost use Rattle.command_files.specs.Program.{program_requests, setup_in, setup_request};
-ghost use Rattle.command_files.specs.Stops.{IsFetchStop, IsStopIn, IsStopOf, Makes, stop_of_fetch};
+ghost use Rattle.command_files.specs.Stops.{FindsNone, IsFetchStop, IsStopIn};
+ghost use Rattle.command_files.specs.Stops.{IsStopOf, Makes, stop_of_fetch};
 
 use crate::stop::Stop;
 use fp_image::{Image, ImageNo, ImageRefused, longest, read_image};
@@ -54,8 +55,8 @@ pub fn fetch<F: Files>(
     ensures counted { F.faults files.old ≤ F.faults files.new }
     ensures request { Asks (F.requests files.old) (F.requests files.new) ((name.now, most) ∷ []) }
     ensures bytes { IfOk result (λ bytes. Fetched (F.told files.old) name.now most bytes.items) }
-    ensures missing { Lacks (F.told files.old) name.now → result ≡ Err Stop.Read }
-    ensures stop { IfErr result (IsFetchStop (F.told files.old) name.now
+    ensures missing { FindsNone F.looks_first (F.told files.old) name.now → result ≡ Err Stop.Read }
+    ensures stop { IfErr result (IsFetchStop F.looks_first (F.told files.old) name.now
         (F.faults files.old) (F.faults files.new)) }
 {
     match files.fetch(alloc, name.as_str(), most) {
@@ -124,7 +125,7 @@ fn fetch_setup<F: Files>(alloc: Global, name: &Name, files: &mut F) -> Result<Se
     ensures counted { F.faults files.old ≤ F.faults files.new }
     ensures request { Asks (F.requests files.old) (F.requests files.new)
         (setup_request name.now ∷ []) }
-    ensures missing { Lacks (F.told files.old) name.now → result ≡ Err Stop.Read }
+    ensures missing { FindsNone F.looks_first (F.told files.old) name.now → result ≡ Err Stop.Read }
     ensures ok { IfOk result (Makes (F.told files.old) (on_file setup_in name.now)) }
     ensures stop { IfErr result (IsStopIn (F.told files.old) (on_file setup_in name.now)
         (F.faults files.old) (F.faults files.new)) }
@@ -145,7 +146,7 @@ fn fetch_image<F: Files>(
     ensures counted { F.faults files.old ≤ F.faults files.new }
     ensures request { Asks (F.requests files.old) (F.requests files.new)
         ((name.now, longest size) ∷ []) }
-    ensures missing { Lacks (F.told files.old) name.now → result ≡ Err Stop.Read }
+    ensures missing { FindsNone F.looks_first (F.told files.old) name.now → result ≡ Err Stop.Read }
     ensures ok { IfOk result (Makes (F.told files.old) (on_file (image_in size) name.now)) }
     ensures stop { IfErr result (IsStopIn (F.told files.old) (on_file (image_in size) name.now)
         (F.faults files.old) (F.faults files.new)) }
@@ -169,7 +170,7 @@ pub fn load<F: Files>(alloc: Global, name: &Name, files: &mut F) -> Result<Progr
         (program_requests name.now p.setup)) }
     ensures asked { IsProgramAsked (F.told files.old) name.now
         (F.requests files.old) (F.requests files.new) }
-    ensures missing { Lacks (F.told files.old) name.now → result ≡ Err Stop.Read }
+    ensures missing { FindsNone F.looks_first (F.told files.old) name.now → result ≡ Err Stop.Read }
     ensures ok { IfOk result (Makes (F.told files.old) (λ told. program told name.now)) }
     ensures stop { IfErr result (IsStopIn (F.told files.old) (λ told. program told name.now)
         (F.faults files.old) (F.faults files.new)) }

@@ -42,7 +42,7 @@ pub fn words_of(alloc: Global, line: &str) -> Result<Vec<String>, AllocError> {
 }
 
 /// The files that a case has before a command. A call of `fetch` may fail.
-fn files_of(
+pub fn files_of(
     alloc: Global,
     case: &Case<'_>,
     command: &Command<'_>,

@@ -14,6 +14,7 @@ mod examples;
 mod expanded;
 mod failing;
 mod noted;
+mod plain;
 mod ports;
 mod stopped;
 
@@ -41,6 +42,9 @@ const FAILING: [(&str, &str); 2] = [
     ("worked.txt", "worked.txt, each fetch and put failing"),
     ("noted.txt", "noted.txt, each fetch and put failing"),
 ];
+
+/// The table whose commands are run again over objects that have only what their traits demand.
+const PLAIN: &str = "worked.txt";
 
 /// Whether a command has the expected result. Prints a result that differs.
 pub fn agrees(
@@ -106,5 +110,5 @@ fn main(rt: HostRuntime) -> io::Result<()> {
     for (name, title) in FAILING {
         failing::compare(rt, name, title)?;
     }
-    Ok(())
+    plain::compare(rt, PLAIN, "worked.txt, plain files, sink and ports")
 }

@@ -96,6 +96,8 @@ impl<F: Files + Drop> Files for NotedFiles<'_, F> {
 
     ghost requests = { λ noted. F.requests noted.files };
 
+    ghost looks_first = { F.looks_first };
+
     ghost faults = { λ noted. F.faults noted.files };
 
     fn fetch(&mut self, alloc: Global, name: &str, most: usize) -> Result<Vec<u8>, FetchFault> {

@@ -210,17 +210,22 @@ leaves-by told words asked before after s n is number zero leaves =
     subst By (sym is) (leaves (status-of s Ok (sym number ∙ zero)))
 
 pub asked-by : (told : Option FileMap) (words : List (List ℕ)) (asked : Ask)
-    (before after : Option (List Request)) → ask words ≡ Some asked →
-    IsAsked asked told before after → IsAskedBy (ask words) told before after
-asked-by told words asked before after is asks =
-    let By : Option Ask → Type 0 = λ o. IsAskedBy o told before after in
+    (status : ℕ) (before after : Option (List Request)) → ask words ≡ Some asked →
+    IsAsked asked told before after → IsAskedBy (ask words) told status before after
+asked-by told words asked status before after is asks =
+    let By : Option Ask → Type 0 = λ o. IsAskedBy o told status before after in
     subst By (sym is) (inr asks)
 
--- no file was requested
-pub unasked : (o : Option Ask) (told : Option FileMap) (before : Option (List Request)) →
-    IsAskedBy o told before before
-unasked None told before = refl
-unasked (Some asked) told before = inl refl
+-- no file was requested: memory ran out, or the arguments give no command
+pub unasked : (o : Option Ask) (told : Option FileMap) (status : ℕ)
+    (before : Option (List Request)) → status ≡ 9 → IsAskedBy o told status before before
+unasked None told status before nine = refl
+unasked (Some asked) told status before nine = inl (nine, refl)
+
+pub none-asked : (o : Option Ask) (told : Option FileMap) (status : ℕ)
+    (before : Option (List Request)) → o ≡ None → IsAskedBy o told status before before
+none-asked None told status before none = refl
+none-asked (Some asked) told status before none = cc
 
 unrun-same : (o : Option Ask) (files : FileMap) (ports : List (Option Row)) →
     LeavesUnrun o files ports ports
@@ -264,16 +269,16 @@ pub apart-by : (words : List (List ℕ)) (asked : Ask) → ask words ≡ Some as
     UsesNoPortBy (ask words) → UsesNoPort asked
 apart-by words asked is apart = let By : Option Ask → Type 0 = UsesNoPortBy in subst By is apart
 
-pub lacks-by : (told : Option FileMap) (words : List (List ℕ)) (asked : Ask) →
-    ask words ≡ Some asked → LacksFirstBy (ask words) told → LacksFirst asked told
-lacks-by told words asked is lacks =
-    let By : Option Ask → Type 0 = λ o. LacksFirstBy o told in subst By is lacks
+pub lacks-by : (looks : Type 0) (told : Option FileMap) (words : List (List ℕ)) (asked : Ask) →
+    ask words ≡ Some asked → LacksFirstBy looks (ask words) told → LacksFirst looks asked told
+lacks-by looks told words asked is lacks =
+    let By : Option Ask → Type 0 = λ o. LacksFirstBy looks o told in subst By is lacks
 
 -- a usage error requests no file
-pub none-lacks : {Q : Type 0} (o : Option Ask) (told : Option FileMap) → o ≡ None →
-    LacksFirstBy o told → Q
-none-lacks None told none lacks = absurd lacks
-none-lacks (Some asked) told none lacks = cc
+pub none-lacks : {Q : Type 0} (looks : Type 0) (o : Option Ask) (told : Option FileMap) →
+    o ≡ None → LacksFirstBy looks o told → Q
+none-lacks looks None told none lacks = absurd lacks
+none-lacks looks (Some asked) told none lacks = cc
 
 pub asks-some : (words : List (List ℕ)) (asked : Ask) → ask words ≡ Some asked →
     ask words ≡ None → ⊥

@@ -7,3 +7,4 @@ mod Preparing
 mod Stopping
 mod Usage
 mod Requesting
+mod KeptRules

@@ -5,6 +5,7 @@ pub mod Requests
 pub mod Endings
 pub mod Prepared
 pub mod Headline
+pub mod ProgramRules
 pub use Rattle.ask_words.specs.Commands
 pub use Rattle.ask_words.specs.Limits
 pub use Rattle.ask_words.specs.declared.asked.Ask

@@ -1,13 +1,13 @@
 -- The requests of a command to the files, with their order and limits.
 use Rattle.std.specs.Prelude.{◌≡◌, ◌⊎◌, ℕ, ◌*◌, List, [], ◌∷◌, ◌++◌, Option, Some, None}
-use Rattle.fp_io.specs.Content.{Asks, FileMap, Lacks, Request}
+use Rattle.fp_io.specs.Content.{Asks, FileMap, Request}
 use Rattle.ask_words.specs.declared.asked.Ask.{Ask}
 use Rattle.ask_words.specs.declared.asked.Ask.TheVariants.{Run, Dump, Asm, Bound, Selfrun}
 use Rattle.ask_words.specs.declared.asked.Ask.TheVariants.{Phases, Solo, Check, Elf, Calls}
 use Rattle.region_tree.specs.declared.section.Section.{Section}
 use Rattle.command_files.specs.declared.program.Program.{Program}
 use Rattle.command_files.specs.Program.{IsProgramAsked, program, program_requests}
-use Rattle.command_files.specs.Stops.{Makes}
+use Rattle.command_files.specs.Stops.{FindsNone, Makes}
 use Rattle.command_files.specs.Assembled.{source_request}
 use Rattle.command_files.specs.BoundAnswer.{section_fault}
 use Rattle.command_files.specs.CallsAnswer.{routines_request}
@@ -51,26 +51,28 @@ IsAsked (Calls setup thread section routines) told before after =
     IsProgramAsked told setup before after
     ⊎ AreRoutinesAsked told setup thread section routines before after
 
--- by a command line: nothing at all, if it is a usage error or memory ran out for its arguments
-abbrev pub IsAskedBy : Option Ask → Option FileMap → Option (List Request) →
+-- by a command line that ended with a status: nothing at all if it is a usage error, or if memory
+-- ran out for its arguments
+abbrev pub IsAskedBy : Option Ask → Option FileMap → ℕ → Option (List Request) →
     Option (List Request) → Type 0
-IsAskedBy None told before after = after ≡ before
-IsAskedBy (Some asked) told before after = (after ≡ before) ⊎ IsAsked asked told before after
+IsAskedBy None told status before after = after ≡ before
+IsAskedBy (Some asked) told status before after =
+    ((status ≡ 9) × (after ≡ before)) ⊎ IsAsked asked told before after
 
--- the files are known to lack the name that a command requests first
-abbrev pub LacksFirst : Ask → Option FileMap → Type 0
-LacksFirst (Run setup thread cycles) told = Lacks told setup
-LacksFirst (Dump setup cycles) told = Lacks told setup
-LacksFirst (Asm source) told = Lacks told source
-LacksFirst (Bound setup thread section) told = Lacks told setup
-LacksFirst (Selfrun number) told = ⊥
-LacksFirst (Phases setup cycles) told = Lacks told setup
-LacksFirst (Solo setup thread cycles) told = Lacks told setup
-LacksFirst (Check setup thread cycles trace) told = Lacks told setup
-LacksFirst (Elf file) told = Lacks told file
-LacksFirst (Calls setup thread section routines) told = Lacks told setup
+-- the files, which look a name up first, are known to lack the one that a command requests first
+abbrev pub LacksFirst : Type 0 → Ask → Option FileMap → Type 0
+LacksFirst looks (Run setup thread cycles) told = FindsNone looks told setup
+LacksFirst looks (Dump setup cycles) told = FindsNone looks told setup
+LacksFirst looks (Asm source) told = FindsNone looks told source
+LacksFirst looks (Bound setup thread section) told = FindsNone looks told setup
+LacksFirst looks (Selfrun number) told = ⊥
+LacksFirst looks (Phases setup cycles) told = FindsNone looks told setup
+LacksFirst looks (Solo setup thread cycles) told = FindsNone looks told setup
+LacksFirst looks (Check setup thread cycles trace) told = FindsNone looks told setup
+LacksFirst looks (Elf file) told = FindsNone looks told file
+LacksFirst looks (Calls setup thread section routines) told = FindsNone looks told setup
 
 -- a command line that requests a file first, where the files are known to have none of its name
-abbrev pub LacksFirstBy : Option Ask → Option FileMap → Type 0
-LacksFirstBy None told = ⊥
-LacksFirstBy (Some asked) told = LacksFirst asked told
+abbrev pub LacksFirstBy : Type 0 → Option Ask → Option FileMap → Type 0
+LacksFirstBy looks None told = ⊥
+LacksFirstBy looks (Some asked) told = LacksFirst looks asked told

@@ -5,7 +5,7 @@ ghost use Rattle.std.specs.Prelude.{Ok, Err, OnOk, OnErr, IfOk, IfErr, IfSome, v
 ghost use Rattle.std.specs.Io.KnownBytes.{Appends};
 ghost use Rattle.std.specs.List.{common_prefix_len};
 ghost use Rattle.fp_io.specs.Causes.{Rose};
-ghost use Rattle.fp_io.specs.Content.{AppendsFront, Asks, Lacks};
+ghost use Rattle.fp_io.specs.Content.{AppendsFront, Asks};
 ghost use Rattle.timer_unit.specs.Time.{most_cycles};
 ghost use Rattle.fp_ports.specs.PluggedPorts.{rows_of};
 ghost use Rattle.solo_run.specs.FirstDifference.{IsChecked};
@@ -15,7 +15,8 @@ ghost use Rattle.flexpret_top.specs.SoloAndCheck.{said_by, same_text, told_alone
 ghost use Rattle.flexpret_top.specs.Requests.{trace_request};
 ghost use Rattle.command_files.specs.Answer.{on_file};
 ghost use Rattle.command_files.specs.Program.{IsProgramAsked, program_requests};
-ghost use Rattle.command_files.specs.Stops.{IsAnswerStop, IsStopIn, IsStopOf, Makes, is_difference};
+ghost use Rattle.command_files.specs.Stops.{FindsNone, IsAnswerStop, IsStopIn};
+ghost use Rattle.command_files.specs.Stops.{IsStopOf, Makes, is_difference};
 ghost use Rattle.command_files.specs.declared.stop.Stop.{Stop};
 
 use crate::ready::Alone;
@@ -79,7 +80,7 @@ pub fn load_alone<F: Files>(
     requires limit { cycles ≤ most_cycles }
     ensures told { F.told files.new ≡ F.told files.old }
     ensures counted { F.faults files.old ≤ F.faults files.new }
-    ensures missing { Lacks (F.told files.old) name.now → result ≡ Err Stop.Read }
+    ensures missing { FindsNone F.looks_first (F.told files.old) name.now → result ≡ Err Stop.Read }
     ensures asked { IsProgramAsked (F.told files.old) name.now
         (F.requests files.old) (F.requests files.new) }
     ensures requests { IfOk result (λ a. Asks (F.requests files.old) (F.requests files.new)
@@ -178,7 +179,8 @@ pub fn compare_alone<F: Files>(
     requires { vec_len ports.old ≡ 8 }
     ensures told { F.told files.new ≡ F.told files.old }
     ensures counted { F.faults files.old ≤ F.faults files.new }
-    ensures missing { Lacks (F.told files.old) trace.now → result ≡ Err Stop.Read }
+    ensures missing { FindsNone F.looks_first (F.told files.old) trace.now
+        → result ≡ Err Stop.Read }
     ensures request { Asks (F.requests files.old) (F.requests files.new)
         (trace_request trace.now alone.cycles ∷ []) }
     ensures ok { OnOk result (Makes (F.told files.old)

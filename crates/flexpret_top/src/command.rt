@@ -110,7 +110,7 @@ fn answer<F: Files, K: Sink>(
     ensures read { result ≡ Status.Read → Rose (F.faults files.old) (F.faults files.new) ⊎
         IsSomeAnd (F.told files.old) (λ told.
         IsAnswerIn ask.now (rows_of latched word_at ports.old.items) told Missing) }
-    ensures missing { LacksFirst ask.now (F.told files.old) → result ≡ Status.Read }
+    ensures missing { LacksFirst F.looks_first ask.now (F.told files.old) → result ≡ Status.Read }
     ensures write { result ≡ Status.Write → Rose (K.faults out.old) (K.faults out.new) }
     ensures front { result ≡ Status.Write → IfSome (F.told files.old) (λ told.
         Began (IsAnswerIn ask.now (rows_of latched word_at ports.old.items) told)
@@ -224,7 +224,7 @@ pub fn flexpret<F: Files, K: Sink>(
     ensures usage { result ≡ 2 → ask (map string_bytes words.now) ≡ None }
     ensures asks { ask (map string_bytes words.now) ≡ None → (result ≡ 2) ⊎ (result ≡ 9) }
     ensures untouched { ask (map string_bytes words.now) ≡ None → files.new ≡ files.old }
-    ensures requests { IsAskedBy (ask (map string_bytes words.now)) (F.told files.old)
+    ensures requests { IsAskedBy (ask (map string_bytes words.now)) (F.told files.old) result
         (F.requests files.old) (F.requests files.new) }
     ensures said { result ≢ 7 → result ≢ 8 → result ≢ 9
         → IfSome (F.told files.old) (λ told.
@@ -233,8 +233,8 @@ pub fn flexpret<F: Files, K: Sink>(
     ensures read { result ≡ 7 → Rose (F.faults files.old) (F.faults files.new) ⊎
         IsSomeAnd (F.told files.old) (λ told. IsAnswer (map string_bytes words.now) told
         (rows_of latched word_at ports.old.items) Missing) }
-    ensures missing { LacksFirstBy (ask (map string_bytes words.now)) (F.told files.old)
-        → (result ≡ 7) ⊎ ((result ≡ 9) × (files.new ≡ files.old)) }
+    ensures missing { LacksFirstBy F.looks_first (ask (map string_bytes words.now))
+        (F.told files.old) → (result ≡ 7) ⊎ ((result ≡ 9) × (files.new ≡ files.old)) }
     ensures write { result ≡ 8 → Rose (K.faults out.old) (K.faults out.new) }
     ensures front { result ≡ 8 → IfSome (F.told files.old) (λ told.
         Began (IsAnswer (map string_bytes words.now) told (rows_of latched word_at ports.old.items))

@@ -10,6 +10,7 @@ mod command;
 mod deliver;
 mod prepare;
 mod ready;
+mod rules;
 mod shown;
 
 pub use ask_words::{Ask, WordsNo, read_words};
@@ -21,6 +22,7 @@ pub use fp_io::{
 };
 pub use fp_ports::{HeldPort, Port, Ports, THREADS, WavePort};
 pub use fp_setup::accepted_keep_rules;
+pub use rules::programs_keep_rules;
 pub use run_laws as isolation_theorems;
 pub use section_visits as visit_theorems;
 pub use solo_run::setup_views_are_views;

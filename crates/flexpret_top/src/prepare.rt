@@ -2,7 +2,7 @@
 
 ghost use Rattle.std.specs.Prelude.{◌≡◌, ◌≢◌, ◌⊎◌, ◌≤◌, ◌<◌, ℕ, false, [], ◌∷◌, Err, IfOk};
 ghost use Rattle.std.specs.Prelude.{IfErr, OnOk, OnErr, IfSome, List, Option, length, vec_len};
-ghost use Rattle.fp_io.specs.Content.{Asks, FileMap, Lacks};
+ghost use Rattle.fp_io.specs.Content.{Asks, FileMap};
 ghost use Rattle.timer_unit.specs.Time.{most_cycles};
 ghost use Rattle.fp_ports.specs.PluggedPorts.{Row, rows_of};
 ghost use Rattle.ask_words.specs.Limits.{IsWithinLimits};
@@ -28,7 +28,7 @@ ghost use Rattle.flexpret_top.specs.Prepared.{
   OnlyReadsFor,
   Prepares,
 };
-ghost use Rattle.command_files.specs.Stops.{IsStop, IsStopIn, is_difference};
+ghost use Rattle.command_files.specs.Stops.{FindsNone, IsStop, IsStopIn, is_difference};
 ghost use Rattle.command_files.specs.declared.stop.Stop.{Stop};
 ghost use Rattle.command_files.specs.declared.stop.Stop.TheVariants.{NoMemory};
 
@@ -84,7 +84,8 @@ fn ready<F: Files>(
     ensures asked { IsProgramAsked (F.told files.old) setup.now
         (F.requests files.old) (F.requests files.new) }
     ensures counted { F.faults files.old ≤ F.faults files.new }
-    ensures missing { Lacks (F.told files.old) setup.now → result ≡ Err Stop.Read }
+    ensures missing { FindsNone F.looks_first (F.told files.old) setup.now
+        → result ≡ Err Stop.Read }
     ensures ok { IfOk result (λ r. IfSome (F.told files.old) (λ told. IsReady told setup.now
         (rows_of latched word_at ports.old.items) (rows_of latched word_at ports.new.items) r)) }
     ensures cycles { IfOk result (λ r. r.cycles ≡ cycles) }
@@ -127,7 +128,8 @@ fn trace<F: Files>(
     ensures asked { IsProgramAsked (F.told files.old) setup.now
         (F.requests files.old) (F.requests files.new) }
     ensures counted { F.faults files.old ≤ F.faults files.new }
-    ensures missing { Lacks (F.told files.old) setup.now → result ≡ Err Stop.Read }
+    ensures missing { FindsNone F.looks_first (F.told files.old) setup.now
+        → result ≡ Err Stop.Read }
     ensures ok { IfOk result (IsPrepared (Ask.Run setup.now thread cycles) (F.told files.old)
         (rows_of latched word_at ports.old.items) (rows_of latched word_at ports.new.items)) }
     ensures thread { IfOk result IsThread }
@@ -157,7 +159,8 @@ fn dump<F: Files>(
     ensures asked { IsProgramAsked (F.told files.old) setup.now
         (F.requests files.old) (F.requests files.new) }
     ensures counted { F.faults files.old ≤ F.faults files.new }
-    ensures missing { Lacks (F.told files.old) setup.now → result ≡ Err Stop.Read }
+    ensures missing { FindsNone F.looks_first (F.told files.old) setup.now
+        → result ≡ Err Stop.Read }
     ensures ok { IfOk result (IsPrepared (Ask.Dump setup.now cycles) (F.told files.old)
         (rows_of latched word_at ports.old.items) (rows_of latched word_at ports.new.items)) }
     ensures thread { IfOk result IsThread }
@@ -186,7 +189,8 @@ fn phases<F: Files>(
     ensures asked { IsProgramAsked (F.told files.old) setup.now
         (F.requests files.old) (F.requests files.new) }
     ensures counted { F.faults files.old ≤ F.faults files.new }
-    ensures missing { Lacks (F.told files.old) setup.now → result ≡ Err Stop.Read }
+    ensures missing { FindsNone F.looks_first (F.told files.old) setup.now
+        → result ≡ Err Stop.Read }
     ensures ok { IfOk result (IsPrepared (Ask.Phases setup.now cycles) (F.told files.old)
         (rows_of latched word_at ports.old.items) (rows_of latched word_at ports.new.items)) }
     ensures thread { IfOk result IsThread }
@@ -207,7 +211,8 @@ fn image<F: Files>(alloc: Global, source: &Name, files: &mut F) -> Result<Prepar
     ensures asked { Asks (F.requests files.old) (F.requests files.new)
         (source_request source.now ∷ []) }
     ensures counted { F.faults files.old ≤ F.faults files.new }
-    ensures missing { Lacks (F.told files.old) source.now → result ≡ Err Stop.Read }
+    ensures missing { FindsNone F.looks_first (F.told files.old) source.now
+        → result ≡ Err Stop.Read }
     ensures ok { IfOk result (IsPreparedApart (Ask.Asm source.now) (F.told files.old)) }
     ensures thread { IfOk result IsThread }
     ensures apart { IfOk result IsWithoutPort }
@@ -224,7 +229,7 @@ fn imported<F: Files>(alloc: Global, file: &Name, files: &mut F) -> Result<Prepa
     ensures asked { Asks (F.requests files.old) (F.requests files.new)
         (executable_request file.now ∷ []) }
     ensures counted { F.faults files.old ≤ F.faults files.new }
-    ensures missing { Lacks (F.told files.old) file.now → result ≡ Err Stop.Read }
+    ensures missing { FindsNone F.looks_first (F.told files.old) file.now → result ≡ Err Stop.Read }
     ensures ok { IfOk result (IsPreparedApart (Ask.Elf file.now) (F.told files.old)) }
     ensures thread { IfOk result IsThread }
     ensures apart { IfOk result IsWithoutPort }
@@ -249,7 +254,8 @@ fn solo<F: Files>(
     ensures asked { IsProgramAsked (F.told files.old) setup.now
         (F.requests files.old) (F.requests files.new) }
     ensures counted { F.faults files.old ≤ F.faults files.new }
-    ensures missing { Lacks (F.told files.old) setup.now → result ≡ Err Stop.Read }
+    ensures missing { FindsNone F.looks_first (F.told files.old) setup.now
+        → result ≡ Err Stop.Read }
     ensures ok { IfOk result
         (IsPreparedApart (Ask.Solo setup.now thread cycles) (F.told files.old)) }
     ensures thread { IfOk result IsThread }
@@ -280,7 +286,8 @@ fn check<F: Files>(
     ensures asked { IsAsked (Ask.Check setup.now thread cycles trace.now) (F.told files.old)
         (F.requests files.old) (F.requests files.new) }
     ensures counted { F.faults files.old ≤ F.faults files.new }
-    ensures missing { Lacks (F.told files.old) setup.now → result ≡ Err Stop.Read }
+    ensures missing { FindsNone F.looks_first (F.told files.old) setup.now
+        → result ≡ Err Stop.Read }
     ensures ok { IfOk result
         (IsPrepared (Ask.Check setup.now thread cycles trace.now) (F.told files.old)
         (rows_of latched word_at ports.old.items) (rows_of latched word_at ports.new.items)) }
@@ -318,7 +325,8 @@ fn bound<F: Files>(
     ensures asked { IsProgramAsked (F.told files.old) setup.now
         (F.requests files.old) (F.requests files.new) }
     ensures counted { F.faults files.old ≤ F.faults files.new }
-    ensures missing { Lacks (F.told files.old) setup.now → result ≡ Err Stop.Read }
+    ensures missing { FindsNone F.looks_first (F.told files.old) setup.now
+        → result ≡ Err Stop.Read }
     ensures ok { IfOk result
         (IsPreparedApart (Ask.Bound setup.now thread section) (F.told files.old)) }
     ensures thread { IfOk result IsThread }
@@ -350,7 +358,8 @@ fn calls<F: Files>(
     ensures asked { IsAsked (Ask.Calls setup.now thread section routines.now) (F.told files.old)
         (F.requests files.old) (F.requests files.new) }
     ensures counted { F.faults files.old ≤ F.faults files.new }
-    ensures missing { Lacks (F.told files.old) setup.now → result ≡ Err Stop.Read }
+    ensures missing { FindsNone F.looks_first (F.told files.old) setup.now
+        → result ≡ Err Stop.Read }
     ensures ok { IfOk result
         (IsPreparedApart (Ask.Calls setup.now thread section routines.now) (F.told files.old)) }
     ensures thread { IfOk result IsThread }
@@ -392,7 +401,7 @@ pub fn prepare<F: Files>(
     ensures asked { IsAsked ask.now (F.told files.old)
         (F.requests files.old) (F.requests files.new) }
     ensures counted { F.faults files.old ≤ F.faults files.new }
-    ensures missing { LacksFirst ask.now (F.told files.old) → result ≡ Err Stop.Read }
+    ensures missing { LacksFirst F.looks_first ask.now (F.told files.old) → result ≡ Err Stop.Read }
     ensures ok { IfOk result (IsPrepared ask.now (F.told files.old)
         (rows_of latched word_at ports.old.items) (rows_of latched word_at ports.new.items)) }
     ensures thread { IfOk result IsThread }

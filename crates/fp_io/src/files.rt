@@ -1,7 +1,7 @@
 //! Files that are read whole, by name.
 
 ghost use Rattle.std.specs.Prelude.{◌≡◌, ℕ, ◌+◌, ◌-◌, ◌^◌, ◌<◌, ◌≤◌};
-ghost use Rattle.std.specs.Prelude.{List, [], ◌∷◌, Option, IfOk, vec_len};
+ghost use Rattle.std.specs.Prelude.{List, [], ◌∷◌, Option, None, IfOk, vec_len};
 ghost use Rattle.fp_io.specs.Causes.{Rose};
 ghost use Rattle.fp_io.specs.Content.{Asks, FileMap, Fetched, Lacks, Request};
 
@@ -27,11 +27,16 @@ pub trait Files {
     // The map, if the object's contract exposes it.
     ghost told: { Self → Option FileMap };
 
-    // The calls of `fetch` so far, in order, if the object's contract exposes them.
-    ghost requests: { Self → Option (List Request) };
-
     // The number of read faults so far. It never decreases, and saturates at 2^64 - 1.
     ghost faults: { Self → ℕ };
+
+    // The calls of `fetch` so far, in order, if the object's contract exposes them. An object that
+    // doesn't leaves this out.
+    ghost requests: { Self → Option (List Request) } = { λ _. None };
+
+    // What holds if the object looks a name up before it takes memory, and then counts no fault for
+    // want of memory. Other objects leave this out.
+    ghost looks_first: { Type 0 } = { ⊥ };
 
     /// Returns the first `most + 1` bytes of a file, or the whole file if it is shorter.
     ///
@@ -41,8 +46,8 @@ pub trait Files {
     /// # Errors
     ///
     /// `Missing` if the object exposes its map and no file has the name. `Failed` if a fault was
-    /// counted in this call. `NoMemory` if memory ran out; then no fault was counted in this call,
-    /// and the map, if exposed, doesn't lack the file.
+    /// counted in this call. `NoMemory` if memory ran out. If the object looks names up first, no
+    /// fault was counted then, and the map, if exposed, doesn't lack the file.
     fn fetch(&mut self, alloc: Global, name: &str, most: usize) -> Result<Vec<u8>, FetchFault>
         requires { most < 2 ^ 64 - 1 }
         ensures request { Asks (requests self.old) (requests self.new) ((name.now, most) ∷ []) }
@@ -54,6 +59,6 @@ pub trait Files {
             → Lacks (told self.old) name.now × (faults self.new ≡ faults self.old) }
         ensures failed { result ≡ Err FetchFault.Failed
             → Rose (faults self.old) (faults self.new) }
-        ensures out_of_memory { result ≡ Err FetchFault.NoMemory
+        ensures out_of_memory { looks_first → result ≡ Err FetchFault.NoMemory
             → (faults self.new ≡ faults self.old) × ¬ (Lacks (told self.old) name.now) };
 }

@@ -117,7 +117,7 @@ impl MemFiles {
 impl Files for MemFiles {
     ghost told = { λ m. Some (λ name. map.get m.named name) };
 
-    ghost requests = { λ _. None };
+    ghost looks_first = { Unit {0} };
 
     ghost faults = { λ m. m.faults };
 

@@ -50,7 +50,7 @@ impl<R: rt::Files + Drop> RealFiles<R> {
 impl<R: rt::Files + Drop> Files for RealFiles<R> {
     ghost told = { λ _. None };
 
-    ghost requests = { λ _. None };
+    ghost looks_first = { Unit {0} };
 
     ghost faults = { λ files. files.1 };
 

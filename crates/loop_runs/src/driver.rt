@@ -1,7 +1,7 @@
 //! The machine in loops with its plants. Every `every` cycles the driver samples the latches of the
 //! ports, steps the plants, and feeds their words to the ports.
 
-ghost use Rattle.std.specs.Prelude.{◌≡◌, ℕ, suc, ◌+◌, ◌*◌, ◌^◌, ◌<◌, ◌≤◌, true, false, Err};
+ghost use Rattle.std.specs.Prelude.{◌≡◌, ℕ, suc, ◌+◌, ◌*◌, ◌/◌, ◌^◌, ◌<◌, ◌≤◌, true, false, Err};
 ghost use Rattle.std.specs.Prelude.{List, Option, OnOk, OnErr, slice_index_or, vec_len};
 ghost use Rattle.std.specs.List.{list_all};
 ghost use Rattle.std.specs.Io.KnownBytes.{Appends};
@@ -269,7 +269,8 @@ pub fn continue_loops<K: Sink>(
 /// Runs a machine from cycle 0 on in closed loops with its plants, which do a step every `every`
 /// cycles, and puts the lines of a thread. They are the text of the run in which each plant
 /// responds to its thread. So they are the text of the thread by itself in the loop with its plant,
-/// for any code of the other threads.
+/// for any code of the other threads. Machine, ports and plants are then those of that run, so that
+/// the run can be continued, and the machine dumped.
 ///
 /// # Errors
 ///
@@ -288,6 +289,12 @@ pub fn run_loops<K: Sink>(
     requires limit { cycles ≤ most_cycles }
     requires eight { vec_len ports.old ≡ 8 }
     requires plants { vec_len plants.old ≡ 8 }
+    ensures looped { (s : Start) (n : ℕ) → cycles ≤ n → n ≤ 2 ^ 64
+        → Refines s 0 n machine.old (rows_of latched word_at ports.old.items)
+        → OnOk result (HasLooped (responses_of response plants.old.items)
+        (responses_of response plants.new.items) every s n (cycles / every) 8 cycles thread
+        machine.new (rows_of latched word_at ports.new.items)
+        (K.taken out.old) (K.taken out.new)) }
     ensures text { (s : Start) → Refines s 0 cycles machine.old
         (rows_of latched word_at ports.old.items)
         → OnOk result (Appends (K.taken out.old) (K.taken out.new) (text (events

@@ -5,5 +5,7 @@ use Rattle.beside_loads.proofs.have_same.Goals as goal
 
 pub returns : goal.returns
 returns c =
-    λ same. (slice_eq-Decides Decides-eqb _ _ _ c.eq.ensures).1
-    (c.bytes.ensures ∙ (same ∙ sym c.bytes-2.ensures))
+    let decides = slice_eq-Decides Decides-eqb _ _ _ c.eq.ensures in (
+      λ yes. sym c.bytes.ensures ∙ (decides.0 yes ∙ c.bytes-2.ensures),
+      λ same. decides.1 (c.bytes.ensures ∙ (same ∙ sym c.bytes-2.ensures)),
+    )

@@ -3,7 +3,7 @@ use Rattle.std.specs.Prelude.{string_bytes}
 use Rattle.fp_ports.specs.PluggedPorts.{rows_of}
 use Rattle.flexpret_top.proofs.Ending.{apart-by, asked-by, asks-some, complete-of}
 use Rattle.flexpret_top.proofs.Ending.{cut-short-by, front-by, leaves-by}
-use Rattle.flexpret_top.proofs.Ending.{lacks-by, none-lacks, nothing-of, number-of}
+use Rattle.flexpret_top.proofs.Ending.{lacks-by, none-asked, none-lacks, nothing-of, number-of}
 use Rattle.flexpret_top.proofs.Ending.{read-by, reads-by}
 use Rattle.flexpret_top.proofs.Ending.{said-of, status-of, unasked, unrun, unrun-by}
 use Rattle.ask_words.specs.Commands.{ask}
@@ -29,9 +29,10 @@ returns-in-Err-Usage g c =
       none-lacks
           {Q = (c.number-in-Err-Usage.result ≡ 7)
           ⊎ ((c.number-in-Err-Usage.result ≡ 9) × (c.args.files.now ≡ c.args.files.now))}
-          (ask (map string_bytes c.args.words.now)) (g.F.Files.told c.args.files.now) nothing,
-      unasked (ask (map string_bytes c.args.words.now)) (g.F.Files.told c.args.files.now)
-          (g.F.Files.requests c.args.files.now),
+          g.F.Files.looks_first (ask (map string_bytes c.args.words.now))
+          (g.F.Files.told c.args.files.now) nothing,
+      none-asked (ask (map string_bytes c.args.words.now)) (g.F.Files.told c.args.files.now)
+          c.number-in-Err-Usage.result (g.F.Files.requests c.args.files.now) nothing,
     )
 
 pub returns-in-Err-NoMemory : goal.returns-in-Err-NoMemory
@@ -41,7 +42,8 @@ returns-in-Err-NoMemory g c =
     search (
       rules,
       unasked (ask (map string_bytes c.args.words.now)) (g.F.Files.told c.args.files.now)
-          (g.F.Files.requests c.args.files.now),
+          c.number-in-Err-NoMemory.result (g.F.Files.requests c.args.files.now)
+          c.number-in-Err-NoMemory.ensures,
       unrun (g.F.Files.told c.args.files.now) (ask (map string_bytes c.args.words.now)) rows,
     )
 
@@ -65,11 +67,12 @@ returns-in-Ok g c = record {
       c.in-Ok.ensures.asked c.number.ensures seven c.answer.ensures.read);
   missing =
       λ lacks. inl (c.number.ensures ∙ ap number_of (c.answer.ensures.missing
-      (lacks-by (g.F.Files.told c.args.files.now) (map string_bytes c.args.words.now) c.in-Ok.ask
+      (lacks-by g.F.Files.looks_first (g.F.Files.told c.args.files.now)
+      (map string_bytes c.args.words.now) c.in-Ok.ask
       c.in-Ok.ensures.asked lacks)));
   requests =
-      asked-by (g.F.Files.told c.args.files.now) (map string_bytes c.args.words.now) c.in-Ok.ask _ _
-      c.in-Ok.ensures.asked c.answer.ensures.requests;
+      asked-by (g.F.Files.told c.args.files.now) (map string_bytes c.args.words.now) c.in-Ok.ask
+      c.number.result _ _ c.in-Ok.ensures.asked c.answer.ensures.requests;
   write =
       λ eight.
       c.answer.ensures.write (status-of c.answer.result Write (sym c.number.ensures ∙ eight));
