@@ -1,4 +1,4 @@
-# Completion of bash for flexpret and flexpret-view: commands, their options, values, and files.
+# Completion of bash for flexpret, flexpret-view, fp_budget and fp_report: commands, their options, values, and files.
 
 # Sets `word`, which is completed, and `before`: the word before it, or the option whose value it is. Bash takes a `=` for a
 # word of its own.
@@ -107,3 +107,34 @@ _flexpret_view() {
     esac
 }
 complete -o filenames -F _flexpret_view flexpret-view ./flexpret-view
+
+# Offers the options of a tool, values of some, and files.
+_flexpret_tool() {
+    local word before
+    COMPREPLY=()
+    _flexpret_words
+    case $before in
+    --thread) _flexpret_offer -W '0 1 2 3 4 5 6 7' ;;
+    --assume)
+        local IFS=$'\n'
+        _flexpret_offer -W $'no traps\nloop tables\nno configuration writes\nreached\nmoved work\nsame sources\nstack fits'
+        ;;
+    --function | --from-label | --to-label | --cycles | --ns | --runs | --window | --title) ;;
+    *)
+        case $word in
+        -*) _flexpret_offer -W "$1" ;;
+        *) _flexpret_offer -f ;;
+        esac
+        ;;
+    esac
+}
+
+_fp_budget() {
+    _flexpret_tool '--elf --src --setup --thread --function --period --all --from-label --to-label --cycles --ns --assume --runs --path --json --junit --flexpret --help'
+}
+complete -o filenames -F _fp_budget fp_budget tools/fp_budget
+
+_fp_report() {
+    _flexpret_tool '-o --elf --src --all --cycles --window --title --flexpret --help'
+}
+complete -o filenames -F _fp_report fp_report tools/fp_report

@@ -48,6 +48,7 @@ class PeriodOf:
 
     loop: int | str | None
     ns: int | None  # from the moment of a wait to that of the next one; None if only the bound is wanted
+    is_read: bool = False  # whether it is what the code shows, if that is known
 
 
 @dataclass(frozen=True)

@@ -7,8 +7,8 @@ from typing import Mapping, Sequence
 from fptools.budget_files import Result, Verdict
 from fptools.claim_runs import marks_for
 from fptools.elf import Program, ProgramError
-from fptools.observed import Kind, Observation, doubt_of, question_of, run_and_observe
-from fptools.observed_text import Text
+from fptools.observed import Kind, Observation, doubt_of, question_of, run_and_observe, silence_of
+from fptools.observed_text import Text, silence_text
 from fptools.period_runs import PeriodRuns
 from fptools.program import Flexpret
 from fptools.section import walk_all
@@ -63,11 +63,15 @@ class Runs:
     def _observed(self, thread: int, watched: Sequence[Watched], results: Sequence[Result]) -> Observation:
         marks = marks_for(self.program, self.image)
         question = question_of(self.setup, thread, watched, self.image, marks)
-        if self.is_of_names:
-            facts = {(it.head, it.last): it.bound for result in results for it in result.loops}
-            question = replace(
-                question, loops=[LoopTable(*place, bound) for place, bound in sorted(facts.items())]
-            )
+        sections = (it for it in results if self.is_of_names or it.budget.period is None)
+        facts = {(it.head, it.last): it.bound for result in sections for it in result.loops}
+        made = [LoopTable(*place, bound) for place, bound in sorted(facts.items())]
+        if not self.is_of_names:
+            stated = {it.head for it in question.loops if it.bound is not None}
+            made = [it for it in made if it.head not in stated]
+            heads = {it.head for it in made}
+            made = [*(it for it in question.loops if it.head not in heads), *made]
+        question = replace(question, loops=made)
         return run_and_observe(self.flexpret, self.setup, question, self.cycles, name=self.name)
 
     def _watched(self, result: Result) -> Watched | None:
@@ -111,9 +115,9 @@ class Runs:
             return replace(result, verdict=Verdict.UNKNOWN, text=text)
         if not seen.count or slowest is None:
             return replace(result, text=f"{result.text}; no execution in {self.cycles} cycles", executions=0)
-        return replace(
-            result, text=f"{result.text}; the longest of {seen.count} executions takes {slowest[0]}"
-        )
+        text = f"{result.text}; the longest of {seen.count} executions takes {slowest[0]}"
+        silent = silence_of(seen, observation.question.shown_to)
+        return replace(result, text=text + (f"; {silence_text(silent)}" if silent else ""))
 
     def _broken_claims(self, observation: Observation, seen: Executions) -> list[str]:
         """The claims with marks in the section, or in a function, that a run broke."""

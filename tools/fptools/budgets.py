@@ -46,6 +46,7 @@ HELP = {
 LONG_CALL = (
     "a call by AUIPC and JALR, which the linker didn't shorten, as of clang: compile by -S, or with gcc"
 )
+LESS_STACK = "less data or stack, or a larger region: docs/C.md#the-stack"
 KEEP = "FP_KEEP(value) before the mark at the end keeps it in"
 # The remedy for an exit of a section, and for one of a function.
 EXIT_HELP = {
@@ -405,7 +406,7 @@ class Judge:
 
     def _look_at_stack(self, asked: Asked) -> None:
         """The thread's stack fits: a lost return address ends every bound. Where that isn't known, code that loads none holds
-        with a note."""
+        with a note, and it may be taken for granted. One that is known to be too large isn't."""
         table = self.setup.thread(asked.budget.thread)
         if table is None:
             return
@@ -414,9 +415,10 @@ class Judge:
             is_noted = NO_OTHER_TRAP in stack.note and Assumption.NO_TRAPS not in asked.budget.assume
             asked.notes += [f"the stack: {stack.note}"] * is_noted
             return
-        is_over, words = stack.verdict is Verdict.OVER, Assumption.STACK_FITS
-        note = f"{'the stack may not fit' if is_over else 'whether the stack fits is unknown'}: {stack.text}"
-        if not is_over and not asked.loads_a_return:
+        if stack.verdict is Verdict.OVER:
+            raise Unknown(f"the stack may not fit: {stack.text}: {LESS_STACK}")
+        words, note = Assumption.STACK_FITS, f"whether the stack fits is unknown: {stack.text}"
+        if not asked.loads_a_return:
             asked.notes.append(f"assumes {words.value}: {note}")
         elif not asked.assumes(words, note):
             raise Unknown(f"{note}; if it fits: assume = [{words.value!r}]")

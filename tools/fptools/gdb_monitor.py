@@ -3,6 +3,7 @@ from __future__ import annotations
 
 import re
 from dataclasses import dataclass
+from importlib.util import find_spec
 from typing import Callable, Iterator, Sequence
 
 from fptools.bounds import called_functions, with_bound
@@ -15,6 +16,7 @@ from fptools.refusals import FAULTS, Context, explain
 from fptools.section import walk
 from fptools.visits import Watched
 
+NO_TABLE = "UnboundedBackEdge"
 CYCLE = re.compile("[0-9]{1,20}")
 HELP = """\
 monitor cycle         the cycle in which the machine stands
@@ -112,6 +114,32 @@ class Monitor:
         except FAULTS:
             return []
 
+    def _bound_without_tables(
+        self, watched: Watched, words: Sequence[str], thread: int
+    ) -> Iterator[str]:
+        """The bound of a section with loops that the setup has no table for: the executable bounds
+        them, as for fp_budget. What fp_budget would refuse for other reasons is a note."""
+        if missing := [it for it in ("jsonschema", "networkx") if find_spec(it) is None]:
+            text = f"T{thread} has no bound there: no [[loop]] of the setup states a loop of it, and"
+            raise Misuse(f"{text} python3-{missing[0]} isn't installed, by which fp_budget bounds it")
+        from fptools.budgets import Assumption, Budget, Judge, Verdict
+        from fptools.image import read_image
+        from fptools.periods import judged
+        from fptools.setup import read_setup
+
+        runs = self.machine.runs
+        setup = read_setup(runs.setup)
+        judge = Judge(runs.flexpret, setup, read_image(setup.image), self.program)
+        assume = frozenset(Assumption) - {Assumption.LOOP_TABLES, Assumption.STACK_FITS}
+        start, end = words
+        budget = Budget(watched.name, thread, start, end, None, True, assume=assume)
+        found = judged(judge, budget)
+        if found.verdict is not Verdict.HOLDS:
+            raise Misuse(f"T{thread} has no bound there: {found.text}")
+        yield f"T{thread} {watched.name}: bound {found.text}"
+        yield from (f"  loop {it}" for it in found.loops)
+        yield from (f"  note: {it}" for it in found.notes)
+
     def _bound(self, words: Sequence[str], thread: int) -> Iterator[str]:
         if len(words) != 2:
             raise Misuse("takes two addresses: the first of the section, and the first behind it")
@@ -123,6 +151,9 @@ class Monitor:
         watched = Watched(f"{words[0]} to {words[1]}", start, end, routines=tuple(called))
         runs = self.machine.runs
         asked = with_bound(runs.flexpret, runs.setup, thread, watched, code, functions)
+        if asked.bound is None and NO_TABLE in asked.doubt and self.program.path is not None:
+            yield from self._bound_without_tables(watched, words, thread)
+            return
         if asked.bound is None:
             told = f"T{thread} has no bound there: {asked.doubt}"
             raise Misuse("\n".join([told, *self._explained(asked.doubt, thread)]))

@@ -33,6 +33,16 @@ class Names:
     sources: Sources
     folder: Path  # where a setup and an image may be written
     has_paths: bool = False  # whether results have the path that costs the bound
+    keeps_tables: bool = False  # whether the setup's tables count, and only the others are made
+
+    def lacks_table(self, budget: Budget) -> bool:
+        """Whether the setup has no table for a loop of a section, or of a function that it calls."""
+        judge = Judge(self.flexpret, self.setup, self.image, self.program, self.sources)
+        try:
+            parts = judge.asked(budget).parts
+        except (Unknown, ProgramError):
+            return False
+        return any(judge.table_of(part, it) is None for part in parts for it in part.loops)
 
     def function(self, name: str, budget: Budget) -> Result:
         """The bound from a call of a function to the issue behind it."""
@@ -75,8 +85,11 @@ class Names:
         """A table for each loop: by the code and the marks, else that of the setup, if the budget takes it for granted."""
         asked = judge.asked(budget)
         judge.look_at_code(asked)
-        tables, missing = [], []
+        tables: list[dict[str, int]] = list(self.setup.values.get("loop", [])) if self.keeps_tables else []
+        missing = []
         for part, stated in judge.stated_loops(asked):
+            if self.keeps_tables and judge.table_of(part, stated.loop) is not None:
+                continue
             try:
                 bound = self._bound_of(judge, asked, part, stated)
                 tables.append({"head": stated.loop.head, "last": stated.loop.last, "bound": bound})

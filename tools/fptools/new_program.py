@@ -107,7 +107,6 @@ class New:
 
     def _makefile(self) -> str:
         objects = " ".join(["start.o", *(f"t{it}_{self.name}.o" for it in range(self.threads))])
-        sections = " ".join(f"step{it}" for it in range(self.threads))
         text = (SHARED / "Makefile").read_text()
         head, _, rest = text.partition("\n\n")
         values: Mapping[str, str] = {
@@ -115,7 +114,7 @@ class New:
             "LAYOUT": "yes",
             "OPTIONS": "-O2 -gdwarf-4",
             "OBJECTS": objects,
-            "FP_LAYOUT": LAYOUT.format(sections=sections),
+            "FP_LAYOUT": "$(RILLUQAR)/tools/fp_layout",
         }
         for name, value in values.items():
             rest, count = re.subn(
@@ -172,14 +171,14 @@ def before_rules(text: str) -> str:
 HEAD = """\
 # make          builds {name}.elf and its image {name}.fpx
 # make run      writes what thread 0 does
-# make check    proves the budgets of budgets.toml, and compares them with a run
+# make check    answers for all hard threads: periods, stacks and budgets, compared with a run
 # make report   makes report.html: budgets and a run
 # make clean    removes all of that
 #
 # The C is compiled to assembly, fp_layout puts the blocks into an order that the analyser takes,
 # and that is assembled: look at t0_{name}.laid.s. OPTIONS='-Os -gdwarf-4' is another level,
-# TOOLS=llvm is clang. A further thread is a line in start.s, an object, a section, and tables in
-# {name}.toml and budgets.toml.
+# TOOLS=llvm is clang. A further thread is a line in start.s, an object, and tables in {name}.toml and
+# budgets.toml.
 #
 {debian}
 
@@ -187,12 +186,6 @@ HEAD = """\
 RILLUQAR = {top}
 
 """
-
-LAYOUT = """\
-$(RILLUQAR)/tools/fp_layout
-
-# The sections of budgets.toml: NAME_begin to NAME_end.
-SECTIONS = {sections}"""
 
 FIRST = """\
 all: $(PROGRAM).fpx
@@ -206,21 +199,15 @@ TARGETS = """
 run: $(PROGRAM).fpx
 	$(RILLUQAR)/flexpret run $(PROGRAM).toml --thread 0 --cycles {cycles}
 
-# The setup with the tables of the sections' loops.
-LOOPS = $(RILLUQAR)/tools/fp_loops $(PROGRAM).elf --calls
-$(PROGRAM).checked.toml: $(PROGRAM).toml $(PROGRAM).elf
-	cp $< $@
-	$(foreach it,$(SECTIONS),$(LOOPS) --from $(it)_begin --to $(it)_end >> $@ &&) true
+check: $(PROGRAM).fpx
+	$(RILLUQAR)/tools/fp_budget $(PROGRAM).elf budgets.toml --setup $(PROGRAM).toml --all --runs {cycles}
 
-check: $(PROGRAM).checked.toml $(PROGRAM).fpx
-	$(RILLUQAR)/tools/fp_budget $< budgets.toml --elf $(PROGRAM).elf --runs {cycles}
-
-report: $(PROGRAM).checked.toml $(PROGRAM).fpx
-	$(RILLUQAR)/tools/fp_report $< budgets.toml --elf $(PROGRAM).elf --cycles {cycles} -o $@.html
+report: $(PROGRAM).fpx
+	$(RILLUQAR)/tools/fp_report $(PROGRAM).toml budgets.toml --elf $(PROGRAM).elf --all --cycles {cycles} -o $@.html
 
 clean: clean_made
 clean_made:
-	rm -f $(PROGRAM).elf $(PROGRAM).fpx $(PROGRAM).checked.toml report.html
+	rm -f $(PROGRAM).elf $(PROGRAM).fpx report.html
 
 .DELETE_ON_ERROR:
 .PHONY: all run check report clean_made

@@ -189,6 +189,17 @@ def doubt_of(seen: Executions) -> Doubt | None:
     return Doubt(watched.name, Why.NONE_BEGAN)
 
 
+def silence_of(seen: Executions, shown_to: int | None) -> int | None:
+    """The cycles at the end of a run in which no execution began, if they are more than twice as many as ever lay
+    between two begins, or as the longest execution took where there was one alone."""
+    if shown_to is None or seen.last_begin is None or seen.unfinished is not None:
+        return None
+    longest = seen.longest
+    usual = seen.periods.most if seen.periods.count else longest.most if longest else None
+    silent = shown_to - seen.last_begin
+    return silent if usual is not None and silent > 2 * usual else None
+
+
 def _has_break(starts: Sequence[int], cycle: int, cycles: int) -> bool:
     """Whether a loop that broke its table was entered in a visit."""
     index = bisect_left(starts, cycle)

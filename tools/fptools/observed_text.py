@@ -7,7 +7,7 @@ from typing import Any, Callable, Iterator, Sequence
 
 from fptools.claim_runs import Passes
 from fptools.elf import Program
-from fptools.observed import Break, Doubt, Kind, Observation, Why, spelled_loop
+from fptools.observed import Break, Doubt, Kind, Observation, Why, silence_of, spelled_loop
 from fptools.trace import CAUSES
 from fptools.visits import Executions, Rounds, Spread, TrapAt, Wait
 
@@ -41,6 +41,11 @@ def _spread_cells(spread: Spread) -> tuple[str, ...]:
     if not spread.count:
         return "0", *[NO_NUMBER] * 4
     return str(spread.count), str(spread.least), f"{spread.mean:.1f}", str(spread.most), str(spread.at)
+
+
+def silence_text(cycles: int) -> str:
+    """That no execution began at a run's end."""
+    return f"none began in its last {cycles} cycles"
 
 
 class Text:
@@ -79,6 +84,8 @@ class Text:
                 continue  # of all functions of an executable a thread runs a few
             yield self._execution(it)
             yield from (f"    {line}" for line in self._remarks(it, seen.question.period))
+            if silent := silence_of(it, seen.question.shown_to):
+                yield f"    {silence_text(silent)}"
 
     def _execution(self, it: Executions) -> str:
         part = ratio(it)

@@ -32,6 +32,9 @@ from fptools.words import Flow, Word
 NO_TRAP = "no trap"
 FAULTS = (Unknown, NotUnfolded, ProgramError)
 ALONE = "the period of a loop has a bound where a round takes one wait"
+APART = "a wait that only a trap leads to: no period of it has a bound"
+ONLY_DELAYS = "a loop that waits by DU alone: only the period of one that waits by WU has a bound"
+NOT_SHOWN = "the code doesn't show what lies between two moments: give it as ns of a budget"
 TANGLED = "the loop of this wait is entered at several words: lay the code out by fp_layout"
 
 
@@ -111,9 +114,23 @@ class Periods:
                 found.setdefault(around[0], set()).add(wait)
         loops = [WaitingLoop(ring, frozenset(waits)) for ring, waits in found.items()]
         named = [it for it in loops if self._is_named(it)]
-        if not named:
+        if not named and self.of.is_read:
+            self._look_at_others()
+        elif not named:
             raise Unknown(self._none(bool(loops)))
         return named
+
+    def _look_at_others(self) -> None:
+        """No loop waits, but by WUs that are followed: not by a DU, nor in a trap handler."""
+        if not self.thread.code.word(self.thread.entry).is_code:
+            raise Unknown(f"{self.judge.where(self.thread.entry)}: no code is at the entry")
+        known = {it.pc for it in self.unfolded.steps}
+        for word in self.thread.may_issue:
+            if word.flow is Flow.WAIT and word.pc not in known:
+                raise Unknown(f"{self.judge.where(word.pc)}: {APART}")
+        for place, step in self.unfolded.steps.items():
+            if step.word.flow is Flow.WAIT and self.unfolded.around(place):
+                raise Unknown(f"{self.judge.where(place.pc)}: {ONLY_DELAYS}")
 
     def _none(self, has_loops: bool) -> str:
         if has_loops:
@@ -270,29 +287,20 @@ class Periods:
         self, budget: Budget, loop: WaitingLoop, pairs: Sequence[Pair], asked: Asked, has_trap: bool
     ) -> Result:
         """The largest of the pairs, compared with what the code waits for."""
-        most = max(pairs, key=lambda it: it.cycles)
-        ns, time = self.of.ns, most.cycles * self.judge.setup.period
+        most, ns = self._limited(pairs)
+        budget, time = self._with_limit(budget, ns), most.cycles * self.judge.setup.period
         of = "" if ns is None else f" of {budget.cycles}"
         text = f"{most.cycles}{of} cycles ({time} ns)"
         assumed = [NO_TRAP] if has_trap else []
-        shown = self._shown(pairs)
-        verdict = Verdict.HOLDS
-        if ns is not None and time > ns:
-            verdict = Verdict.OVER
-        elif ns is not None:
-            self._look_at_moments(pairs, ns)
-            unclear = {self._where(it.end): it.moment for it in pairs}
-            whys = [f"{at}: {it.why}" for at, it in unclear.items() if isinstance(it, Unclear)]
-            if whys:
-                assumed.append(f"moments {ns} ns apart")
-                asked.notes += whys
-            first = self._first.judged(loop.waits)
-            if first.timely is Timely.LATE:
-                raise Unknown(f"{first.why}; {text}")
-            if first.timely is Timely.NOT_KNOWN:
-                assumed.append("the first wait in time")
-                asked.notes.append(first.why)
-        text += shown + (f"; assumes {', '.join(assumed)}" if assumed else "")
+        verdict = Verdict.OVER if ns is not None and time > ns else Verdict.HOLDS
+        if verdict is Verdict.HOLDS and (ns is not None or self.of.is_read):
+            self._look_at_moments(pairs, self.of.ns)
+            assumed += self._assumed(pairs, asked, ns)
+        if verdict is Verdict.HOLDS and ns is not None:
+            assumed += self._first_assumed(loop, asked, text)
+        if self.of.is_read and ns is None:
+            text += f"; {NOT_SHOWN}"
+        text += self._shown(pairs) + (f"; assumes {', '.join(assumed)}" if assumed else "")
         bounds = self._path_bounds
         notes = tuple(dict.fromkeys([*bounds.notes, *asked.notes]))
         loops = tuple(it for _, it in sorted(bounds.loops.items()))
@@ -312,12 +320,52 @@ class Periods:
             waits=waits,
         )
 
+    def _limited(self, pairs: Sequence[Pair]) -> tuple[Pair, int | None]:
+        """The pair that counts: the largest, or where the code shows what lies between two moments
+        the one with the least left. And these nanoseconds, if they are known."""
+        most, period = max(pairs, key=lambda it: it.cycles), self.judge.setup.period
+        if self.of.ns is not None or not self.of.is_read:
+            return most, self.of.ns
+        shown = [
+            (it.moment.ns - it.cycles * period, at, it.moment.ns)
+            for at, it in enumerate(pairs)
+            if isinstance(it.moment, Behind)
+        ]
+        left, at, ns = min(shown, default=(0, 0, 0))
+        is_known = bool(shown) and (len(shown) == len(pairs) or left < 0)
+        return (pairs[at], ns) if is_known else (most, None)
+
+    def _with_limit(self, budget: Budget, ns: int | None) -> Budget:
+        """The budget of a period whose length is read off the code."""
+        if not self.of.is_read or ns is None:
+            return budget
+        return replace(
+            budget, cycles=ns // self.judge.setup.period, period=replace(self.of, ns=ns)
+        )
+
+    def _assumed(self, pairs: Sequence[Pair], asked: Asked, ns: int | None) -> list[str]:
+        """What is assumed of the moments, with the reasons as notes."""
+        unclear = {self._where(it.end): it.moment for it in pairs}
+        whys = [f"{at}: {it.why}" for at, it in unclear.items() if isinstance(it, Unclear)]
+        asked.notes += whys
+        return [f"moments {ns} ns apart"] if whys and ns is not None else []
+
+    def _first_assumed(self, loop: WaitingLoop, asked: Asked, text: str) -> list[str]:
+        """That the first wait is in time, where the code doesn't show it."""
+        first = self._first.judged(loop.waits)
+        if first.timely is Timely.LATE:
+            raise Unknown(f"{first.why}; {text}")
+        if first.timely is Timely.IN_TIME:
+            return []
+        asked.notes.append(first.why)
+        return ["the first wait in time"]
+
     def _shown(self, pairs: Sequence[Pair]) -> str:
         """What the code shows of the moments."""
         found = {it.moment for it in pairs}
         text = ""
         steps = sorted({it.ns for it in found if isinstance(it, Behind) and it.reading is None})
-        if steps and self.of.ns is None:
+        if steps and self.of.ns is None and (not self.of.is_read or len(steps) > 1):
             text += f"; the moments are {' or '.join(map(str, steps))} ns apart"
         for it in sorted(found, key=str):
             if isinstance(it, Behind) and it.reading is not None:
@@ -328,8 +376,8 @@ class Periods:
     def _where(self, place: Place) -> str:
         return self.judge.where(place.pc)
 
-    def _look_at_moments(self, pairs: Sequence[Pair], ns: int) -> None:
-        """The moments are as far apart as it was said."""
+    def _look_at_moments(self, pairs: Sequence[Pair], ns: int | None) -> None:
+        """The moments are as far apart as it was said, if it was."""
         for it in pairs:
             where, moment = self._where(it.end), it.moment
             if isinstance(moment, Absolute):
@@ -342,13 +390,13 @@ class Periods:
             since = "the one before"
             if reading is not None:
                 since = f"a reading of the time at {self._where(reading)}"
-            if moment.ns != ns:
+            if ns is not None and moment.ns != ns:
                 raise Unknown(
                     f"{where}: the moment is {moment.ns} ns behind {since}, and not {ns} ns"
                 )
             if reading is not None:
                 needed = self._path_bounds.most(reading, it.end, True) * self.judge.setup.period
-                if needed > ns:
+                if needed > moment.ns:
                     raise Unknown(
                         f"{where}: it may be late: it takes up to {needed} ns from {since}"
                     )
@@ -365,7 +413,26 @@ def results_of(judge: Judge, budget: Budget) -> list[Result]:
 
 def judged(judge: Judge, budget: Budget) -> Result:
     """The result for a budget: of the loops that it means, the one that is furthest from keeping
-    it."""
-    if budget.period is None:
+    it. Of a section, loops that have no table in the setup are bounded by the executable."""
+    if budget.period is not None:
+        return max(results_of(judge, budget), key=lambda it: (it.verdict, it.bound or 0))
+    if judge.program.path is None:
         return judge.judge(budget)
-    return max(results_of(judge, budget), key=lambda it: (it.verdict, it.bound or 0))
+    with tempfile.TemporaryDirectory() as folder:
+        names = names_of(judge, Path(folder))
+        is_made = names.lacks_table(budget) or not judge.setup.image.exists()
+        return names.section(budget) if is_made else judge.judge(budget)
+
+
+def names_of(judge: Judge, folder: Path) -> Names:
+    """Asks as a judge does, with tables for the loops for which its setup has none."""
+    return Names(
+        judge.flexpret,
+        judge.setup,
+        judge.image,
+        judge.program,
+        judge.sources,
+        folder,
+        judge.has_paths,
+        keeps_tables=True,
+    )

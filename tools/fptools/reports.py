@@ -3,28 +3,36 @@ from __future__ import annotations
 
 import json
 import re
-from typing import Any
+from typing import Any, Sequence
 from xml.etree import ElementTree
 
 from fptools.budget_files import Result, Verdict
 from fptools.path_facts import path_fields
 from fptools.stack_reports import stack_fields
+from fptools.stacks import Stack
 
 NOT_XML = re.compile("[^\t\n\r -\ud7ff\ue000-\ufffd\U00010000-\U0010ffff]")
 
 
-def junit(results: list[Result], name: str, fault: str | None = None) -> bytes:
-    """The results as a JUnit file: what is over is a failure, what is unknown, or stood against all of them, an error."""
-    of = {verdict: sum(it.verdict is verdict for it in results) for verdict in Verdict}
+KINDS = {Verdict.HOLDS: None, Verdict.OVER: "failure", Verdict.UNKNOWN: "error"}
+
+
+def junit(
+    results: list[Result], name: str, fault: str | None = None, stacks: Sequence[Stack] = ()
+) -> bytes:
+    """The results, and stacks, as a JUnit file: what is over is a failure, what is unknown, or stood against all of them, an
+    error."""
+    all_of = [*(it.verdict for it in results), *(it.verdict for it in stacks)]
     faults = 0 if fault is None else 1
     suite = ElementTree.Element(
-        "testsuite", name=without_controls(name), tests=str(len(results) + faults),
-        failures=str(of[Verdict.OVER]), errors=str(of[Verdict.UNKNOWN] + faults),
+        "testsuite", name=without_controls(name), tests=str(len(all_of) + faults),
+        failures=str(all_of.count(Verdict.OVER)), errors=str(all_of.count(Verdict.UNKNOWN) + faults),
     )  # fmt: skip
     for result in results:
-        kind = {Verdict.HOLDS: None, Verdict.OVER: "failure", Verdict.UNKNOWN: "error"}[result.verdict]
-        case = _case(suite, f"T{result.budget.thread}", result.budget.name, kind, result.text)
-        _add_numbers(case, result)
+        thread, text = f"T{result.budget.thread}", result.text
+        _add_numbers(_case(suite, thread, result.budget.name, KINDS[result.verdict], text), result)
+    for stack in stacks:
+        _case(suite, f"T{stack.thread}", "stack", KINDS[stack.verdict], stack.text)
     if fault is not None:
         _case(suite, "fp_budget", name, "error", fault)
     ElementTree.indent(suite)
@@ -57,9 +65,13 @@ def _add_numbers(case: ElementTree.Element, result: Result) -> None:
         ElementTree.SubElement(properties, "property", name=name, value=value)
 
 
-def as_json(results: list[Result], fault: str | None = None) -> str:
-    """The results as a JSON document: `bound`, `budget` and `slack` are cycles, `ns` is the bound's time."""
-    document: dict[str, Any] = {"results": [data_of(result) for result in results]}
+def as_json(
+    results: list[Result], fault: str | None = None, threads: list[dict[str, Any]] | None = None
+) -> str:
+    """The results as a JSON document: `bound`, `budget` and `slack` are cycles, `ns` is the bound's time. With the answers
+    for threads, if they are asked for."""
+    document: dict[str, Any] = {} if threads is None else {"threads": threads}
+    document["results"] = [data_of(result) for result in results]
     if fault is not None:
         document["error"] = fault
     return json.dumps(document, indent=2, ensure_ascii=False)

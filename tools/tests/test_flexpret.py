@@ -1368,6 +1368,20 @@ def test_completion_of_the_view() -> None:
     assert offered("flexpret-view", "turns", "--svg", "READ") == ["README.md"]
 
 
+@pytest.mark.parametrize("name", ["fp_budget", "fp_report"])
+def test_completion_of_a_tool(name: str) -> None:
+    shown = subprocess.run([TOOLS / name, "--help"], capture_output=True, text=True, check=True).stdout
+    options = set(re.findall(r"^  (?:-h, )?(--?[a-z-]+)", shown.partition("\noptions:")[2], re.M))
+    assert set(offered(name, "-")) == options
+    assert offered(name, "--thread", "=", "7") == ["7"]
+    assert offered(name, "READ") == ["README.md"]
+
+
+def test_completion_of_assumptions() -> None:
+    assert offered("fp_budget", "--assume", "no") == "no traps no configuration writes".split()
+    assert offered("fp_budget", "--assume", "stack") == ["stack", "fits"]
+
+
 @pytest.mark.parametrize(
     ("setup", "start", "end", "status"),
     [

@@ -357,6 +357,21 @@ def test_a_refused_bound_is_explained(pid: Client) -> None:
     assert "a wait takes as long as its moment says: end the section before it" in told
 
 
+def test_a_bound_of_loops_that_have_no_table(flexpret: str, tmp_path: Path) -> None:
+    """The executable bounds them, as fp_budget has it; what that would refuse is a note."""
+    setup = tmp_path / "untold.toml"
+    text, table, _ = (TOP / PID).read_text().partition("[[loop]]")
+    assert table
+    setup.write_text(text)
+    with Client(flexpret, setup, "--elf", "examples/c/pid.elf", "--cycles", 20_000) as untold:
+        first, loop, *notes = untold.monitor("bound step_begin step_end").splitlines()
+    assert first == "T0 step_begin to step_end: bound 352 cycles (3520 ns)"
+    assert loop.startswith("  loop 0xf0 step_begin+0x3c") and "the code counts 8 rounds" in loop
+    assert any("assumes no traps: " in it and "MRET" in it for it in notes), notes
+    with Client(flexpret, setup, "--cycles", 20_000) as untold:
+        assert "UnboundedBackEdge" in untold.monitor("bound 0xb4 0x1a4"), "no executable is named"
+
+
 def test_names_without_an_executable(flexpret: str) -> None:
     with Client(flexpret, "examples/drive.toml") as plain:
         told = "main is a name, and names need an executable: start fp_gdb with --elf FILE"

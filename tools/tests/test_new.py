@@ -56,8 +56,12 @@ def test_a_new_program_holds(
     assert (ran.returncode, ran.stderr, len(ran.stdout.splitlines())) == (0, "", 2)
     checked = make(folder, "check", *more)
     lines = checked.stdout.splitlines()
-    assert checked.returncode == 0 and len(lines) == 2 * count, checked.stdout + checked.stderr
-    for k, (period, step) in enumerate(zip(lines, lines[count:])):
+    assert checked.returncode == 0 and len(lines) == 4 * count + 2, checked.stdout + checked.stderr
+    answers = lines[count + 2 :]
+    for k in range(count):
+        period, step, stack = answers[3 * k : 3 * k + 3]
+        assert lines[k + 1].startswith(f"T{k}      holds   1 of {count} "), lines[k + 1]
+        assert stack.startswith(f"holds    T{k} stack: ")
         assert period.startswith(f"holds    T{k} the period of thread {k}: ")
         assert period.endswith(", no wait is late")
         assert step.startswith(f"holds    T{k} a step of thread {k}: ")

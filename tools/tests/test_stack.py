@@ -134,14 +134,24 @@ def test_a_stack_that_does_not_fit_makes_a_budget_unknown(
 ) -> None:
     made = built(flexpret, tmp_path, "over", "-O2", laid=True)
     why = "the stack may not fit: 896 of 844 bytes: main0 (16) > large (880); below is .bss0"
-    status, line, _ = budget(asking, made)
-    assert (status, line.startswith(f"UNKNOWN  T0 step_begin to step_end: {why}; if it fits:")) == (
-        2,
-        True,
-    )
-    status, line, told = budget(asking, made, "--assume", "stack fits")
-    assert (status, line) == (0, "bound    T0 step_begin to step_end: 4 cycles (40 ns)")
-    assert f"assumes stack fits: {why}" in told
+    for words in ((), ("--assume", "stack fits")):
+        status, line, told = budget(asking, made, *words)
+        assert (status, line.startswith(f"UNKNOWN  T0 step_begin to step_end: {why}: ")) == (2, True)
+        assert "assume" not in line and told == ""
+
+
+def test_a_stack_that_does_not_fit_makes_a_period_unknown(
+    asking: Tool, flexpret: str, tmp_path: Path
+) -> None:
+    made = built(flexpret, tmp_path, "over_waits", "-O2", laid=True)
+    period = ("--setup", made.setup, "--thread", "0", "--period", "--ns", "100000")
+    for words in ((), ("--assume", "stack fits")):
+        ran = asking("fp_budget", made.elf, *period, *words)
+        assert (ran.returncode, ran.stdout.count("\n")) == (2, 1), ran
+        assert ran.stdout.startswith("UNKNOWN  T0 period of main0 (t0_over_waits.c:")
+        assert ": the stack may not fit: 912 of 844 bytes: " in ran.stdout
+    ran = asking("fp_budget", made.elf, "--setup", made.setup, "--all", "--assume", "stack fits")
+    assert ran.returncode == 2 and "\nOVER     T0 stack: 912 of 844 bytes" in ran.stdout
 
 
 def test_a_stack_in_the_region_of_another_thread(flexpret: str, tmp_path: Path) -> None:

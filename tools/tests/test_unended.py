@@ -286,3 +286,40 @@ def test_a_report_of_a_step_that_crashes(tool: Tool, tmp_path: Path) -> None:
         assert ended == status and text.startswith(f"{word.upper():<8} T0 it: ")
         assert f"1 {word}</span>" in head and "holds" not in head.split("<header>")[1]
         assert "didn&#39;t end: trap 5 load access in cycle " in head and " step+0x" in head
+
+
+STOPS = {
+    "an endless loop": "on_stop: j on_stop",
+    "a DU": "li t5, -1\n        du t5, t5",
+}
+
+
+@pytest.mark.parametrize("stop", STOPS)
+def test_a_thread_that_stops_between_two_executions(tool: Tool, tmp_path: Path, stop: str) -> None:
+    """No trap comes and no execution is late, so the budget holds; the first line says it."""
+    behind = f"addi t2, s3, -4\n        bnez t2, goes\n        {STOPS[stop]}\ngoes:   nop"
+    it = made(tmp_path, "stopped", behind=behind)
+    budgets = tmp_path / "budgets.toml"
+    begin, end = it.labels["begin"], it.labels["end"]
+    budgets.write_text(
+        f'[[budget]]\nname = "it"\nthread = 0\nfrom = {begin}\nto = {end}\ncycles = 400\n'
+    )
+    words = ("fp_budget", it.setup, budgets, "--flexpret", program(tmp_path), "--runs")
+    ran = tool(*words, 4000)
+    said = ran.stdout.partition("; the longest of 4 executions takes ")[2]
+    assert ran.returncode == 0 and "; none began in its last 3" in said, ran
+    ran = tool(*words, 200)
+    assert ran.returncode == 0 and "none began" not in ran.stdout, "the run ends soon behind it"
+    ran = tool(
+        "fp_visits",
+        "--setup",
+        it.setup,
+        "--thread",
+        0,
+        "--cycles",
+        4000,
+        *words[3:5],
+        "--section",
+        f"it={begin}:{end}",
+    )
+    assert ran.returncode == 0 and "\n    none began in its last 3" in ran.stdout, ran

@@ -22,6 +22,7 @@ from fptools.shown import Columns
 from fptools.sources import Sources
 from fptools.stacks import Stack
 from fptools.visits import Executions
+from fptools.whole import ThreadAnswer, Whole
 
 NAME = "fp_report"
 MARGIN = 40  # cycles of the timeline on both sides of an execution
@@ -71,6 +72,7 @@ class Findings:
     observations: list[Observation]
     timeline: Timeline
     stacks: list[Stack]
+    threads: list[ThreadAnswer]  # none where only budgets are asked for
 
 
 @dataclass
@@ -83,6 +85,7 @@ class Question:
     sources: Sources
     cycles: int
     window: Span | None
+    is_of_all: bool = False  # whether it is of all hard threads, and not only of budgets
 
     def __post_init__(self) -> None:
         self.image = read_image(self.setup.image)
@@ -98,7 +101,9 @@ class Question:
             self.flexpret, self.setup, self.image, self.program, self.sources, has_paths=True
         )
         runs = Runs(self.flexpret, self.setup, self.image, self.program, self.cycles, name=NAME)
-        compared = runs.observed([judged(judge, it) for it in budgets])
+        whole = Whole(judge)
+        given = whole.results(budgets) if self.is_of_all else [judged(judge, it) for it in budgets]
+        compared = runs.observed(given)
         seen = observations_of(compared)
         found = self._located(compared)
         self._columns.disassembler.learn(self.image)
@@ -120,6 +125,7 @@ class Question:
             seen,
             timeline,
             judge.stacks.all(),
+            whole.threads([it.result for it in compared]) if self.is_of_all else [],
         )
 
     def _located(self, compared: Sequence[Compared]) -> list[Finding]:

@@ -24,11 +24,12 @@ from fptools.html.promises import CHECKS, PROVED, TESTED
 from fptools.html.timeline import KINDS, MOST_WINDOW, Timeline
 from fptools.claim_runs import Passes
 from fptools.labels import names_at
-from fptools.observed import Kind
-from fptools.observed_text import Text, ratio
+from fptools.observed import Kind, silence_of
+from fptools.observed_text import Text, ratio, silence_text
 from fptools.reports import without_controls
 from fptools.trace import CAUSES
 from fptools.visits import Rounds
+from fptools.whole_text import counted, load_text, period_text, stack_text
 
 TEMPLATES = Path(__file__).parent / "templates"
 MOST_SPOTS = 16  # lines of an execution that are listed
@@ -128,6 +129,20 @@ def _rounds_text(rounds: Rounds | None) -> str:
 
 
 @dataclass(frozen=True)
+class Row:
+    """The answers for a thread, as texts. `word` is empty for a thread that isn't asked for."""
+
+    thread: str
+    word: str
+    mode: str
+    slots: str
+    load: str
+    period: str
+    stack: str
+    budgets: str
+
+
+@dataclass(frozen=True)
 class Wait:
     """A DU or WU of a run."""
 
@@ -169,8 +184,36 @@ class Page:
     def summary(self) -> list[tuple[Verdict, int, str]]:
         """How many budgets hold, are over and are unknown, those that there are."""
         verdicts = [it.result.verdict for it in self.findings.found]
+        verdicts += [it.stack.verdict for it in self.findings.threads if it.stack]
         counts = [(it, verdicts.count(it), WORDS[it]) for it in Verdict]
         return [it for it in counts if it[1]]
+
+    @property
+    def answers(self) -> str:
+        """How many answers there are."""
+        number, stacks = len(self.cards), sum(bool(it.stack) for it in self.findings.threads)
+        text = f"{number} budget{'s' * (number != 1)}"
+        if not self.findings.threads:
+            return text
+        periods = f"{number} period{'s' * (number != 1)} and budgets"
+        return f"{periods}, and {stacks} stack{'s' * (stacks != 1)}"
+
+    @property
+    def rows(self) -> list[Row]:
+        """The answers by threads."""
+        return [
+            Row(
+                f"T{it.table.id}",
+                it.word,
+                it.table.mode,
+                f"{it.slots} of {it.frame}",
+                load_text(it.load),
+                period_text(it),
+                stack_text(it.stack),
+                counted(it.sections),
+            )
+            for it in self.findings.threads
+        ]
 
     @property
     def inputs(self) -> list[Input]:
@@ -269,6 +312,11 @@ class Page:
             found += [text.unknown(it, one) for one in it.doubts]
             # A budget that is over says so itself, and that an execution didn't end is of the run.
             found += [text.broken(it, one) for one in it.breaks if one.kind is not Kind.BUDGET or one.doubt]
+            found += [
+                f"T{it.question.thread} {one.watched.name}: {silence_text(silent)}"
+                for one in it.executions
+                if (silent := silence_of(one, it.question.shown_to))
+            ]
         return found
 
 
@@ -293,6 +341,7 @@ def html_of(findings: Findings, title: str) -> bytes:
         checks=CHECKS,
         tested=TESTED,
         kinds=KINDS,
+        signs=SIGNS,
         most_spots=MOST_SPOTS,
         most_window=MOST_WINDOW,
         count=units.count_text,
