@@ -1,9 +1,10 @@
 #!/usr/bin/env python3
 """Measures what loop marks cost: the bounds of the shapes in tools/tests/data/layout, without and with marks.
 
-Both have the loop counts of a run, so the marks change only the compiled code. For each compiler and
-level it prints the sums of the bounds, the geometric mean of the ratios, the shapes with a larger bound, and the
-`nop`s that stay. Status 1: the mean at -O2 with gcc is above 1.03.
+Both have the loop counts of a run, so the marks change only the compiled code. For each compiler and level it prints
+the sums of the bounds, the geometric and the arithmetic mean of the ratios, the shapes with a larger bound, and the
+`nop`s that stay. With --more OPTION the compiler gets an option. Status 1: the geometric mean at -O2 with gcc is above
+1.03.
 
     bench/marks_cost.py            # about four minutes of a processor
     bench/marks_cost.py O2"""
@@ -46,6 +47,11 @@ class Cost:
         """The geometric mean of the ratios."""
         return math.exp(sum(map(math.log, self.ratios.values())) / len(self.ratios))
 
+    @property
+    def arithmetic(self) -> float:
+        """The arithmetic mean of the ratios."""
+        return sum(self.ratios.values()) / len(self.ratios)
+
     def row(self) -> str:
         sums = [sum(self.bounds[name][k] for name in self.ratios) for k in (0, 1)]
         more = sorted(name for name, it in self.ratios.items() if it > 1)
@@ -54,7 +60,7 @@ class Cost:
         compiler = 'clang' if self.way.is_clang else 'gcc'
         return (
             f'| {compiler} {self.way.level} | {len(self.ratios)} | {sums[0]} | {sums[1]} '
-            f'| {self.mean:.3f} | {len(more)} | {what} | {self.nops} |'
+            f'| {self.mean:.3f} | {self.arithmetic:.3f} | {len(more)} | {what} | {self.nops} |'
         )
 
 
@@ -86,15 +92,17 @@ def main() -> int:
     )
     parser.add_argument('levels', nargs='*', default=LEVELS, metavar='LEVEL')
     parser.add_argument('--clang', action='store_true', help='also with clang')
+    parser.add_argument('--more', action='append', default=[], metavar='OPTION', help='of the compiler')
     asked, status = parser.parse_args(), 0
-    print('| | shapes | without | with | mean ratio | larger | | `nop`s |')
-    print('|---|---|---|---|---|---|---|---|')
+    print('| | shapes | without | with | geometric | arithmetic | larger | | `nop`s |')
+    print('|---|---|---|---|---|---|---|---|---|')
     for is_clang in (False, True) if asked.clang else (False,):
         for level in asked.levels:
             if is_clang and level == 'Og':
                 continue
             with tempfile.TemporaryDirectory() as folder:
-                cost = cost_of(Path(folder), Way(f'-{level}', False, is_clang=is_clang))
+                way = Way(f'-{level}', False, is_clang=is_clang, more=tuple(asked.more))
+                cost = cost_of(Path(folder), way)
             print(cost.row(), flush=True)
             if level == 'O2' and not is_clang and cost.mean > MOST_RATIO:
                 print(f'{cost.mean:.3f} is above {MOST_RATIO}', file=sys.stderr)

@@ -5,7 +5,7 @@ import tempfile
 from dataclasses import dataclass, field
 from functools import cached_property
 from pathlib import Path
-from typing import Mapping
+from typing import Mapping, Sequence
 
 from fptools.answers import Bound, NoAnswer, Refusal, read_answer
 from fptools.budget_files import Assumption, Budget, LoopFact, Result, Verdict
@@ -301,14 +301,16 @@ class Judge:
             if not asked.assumes(Assumption.NO_CONFIGURATION_WRITES, note):
                 raise Unknown(f"{note}: no bound is promised from then on")
 
-    def stated_loops(self, asked: Asked) -> list[tuple[Section, StatedLoop]]:
-        """The known facts about the loops of a section and of the functions that it calls."""
+    def stated_loops(
+        self, asked: Asked, callers: Sequence[Section] = ()
+    ) -> list[tuple[Section, StatedLoop]]:
+        """The known facts about the loops of a section and of the functions that it calls, also by the calls of other code."""
         thread = self.thread(asked.budget.thread)
         entries = {it.entry for it in self.setup.threads}
         entries |= {it.start for it in self.program.functions} | set(thread.handlers(asked.begin))
         entries |= {at for it in self._code.placed if (at := self._code.jump_target(it)) is not None}
         inference, exits = self._inference, asked.exits
-        return inference.state(asked.parts, entries, exits, is_entered_anywhere=thread.jumps_anywhere)
+        return inference.state(asked.parts, entries, exits, thread.jumps_anywhere, callers)
 
     @cached_property
     def _inference(self) -> Inference:

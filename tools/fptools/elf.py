@@ -10,6 +10,7 @@ from pathlib import Path
 from typing import Any, Collection, Iterable, Iterator, Mapping
 
 from fptools.image import words_of
+from fptools.one_function import Origin, origins_of
 from fptools.recorded import SECTION, NoRecord, read_record
 
 # Without an executable nothing here needs pyelftools: the methods that read one import it.
@@ -271,8 +272,25 @@ class Program:
         return units
 
     def is_shared(self, address: int) -> bool:
-        """Whether a word is of several functions, as a linker may fold those of the same code."""
-        return sum(piece[0][0] <= address < piece[-1][0] for piece in self._pieces) > 1
+        """Whether a word is of several functions, as a linker may fold those of the same code. The copies of an inline
+        function in several units are one function."""
+        spans = [(it[0][0], it[-1][0]) for it in self._pieces if it[0][0] <= address < it[-1][0]]
+        if len(spans) < 2:
+            return False
+        known = self._origins.get(spans[0][0], [])
+        is_one = len(known) == len(spans) and len({*known}) == 1 and None not in known
+        return len({*spans}) > 1 or not is_one
+
+    @cached_property
+    def _origins(self) -> Mapping[int, list[Origin | None]]:
+        """The functions of the sources, by their first addresses."""
+
+        def file_of(unit: Any, number: int) -> Path:
+            folder = unit.get_top_DIE().attributes.get("DW_AT_comp_dir")
+            table = unit.dwarfinfo.line_program_for_CU(unit).header
+            return _file_of(table, number, Path(folder.value.decode()) if folder else Path())
+
+        return origins_of(self._debug_units, file_of)
 
     @property
     def has_lines(self) -> bool:

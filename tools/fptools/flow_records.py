@@ -16,7 +16,8 @@ byte behind it:
 What FP_LOOP and its FP_ROUND share is a claim: number, line, n, unit and the strings. All copies of
 a mark that a compiler makes have the claim of the statement. Units that are compiled with
 FP_FLOW_DIRECT have only their names: the section `.fp_flow_units` has that of each unit, so two
-units of one name are seen, and their claims don't count."""
+units of one name are seen, and their claims don't count. The section `.fp_flow_aliases` has the
+aliases of functions in units that fp_layout read: the name of each, and that of the function."""
 from __future__ import annotations
 
 import struct
@@ -26,16 +27,15 @@ from enum import Enum
 from typing import Mapping, Sequence
 
 from fptools.elf import Program
+from fptools.one_function import is_one
 from fptools.words import RETURN, Flow, Word
 
-SECTION, UNITS = ".fp_flow", ".fp_flow_units"
+SECTION, UNITS, ALIASES = ".fp_flow", ".fp_flow_units", ".fp_flow_aliases"
 MOST_ROUNDS = 1_048_576
 """The largest n of a FP_LOOP, and the largest bound of a loop that a setup takes."""
 
 HEADER = struct.Struct("<7I")
 ROUND, ONLY_FALL = 0x1, 0x100
-DELETED = (2**32 - 4, 2**32 - 4 + ROUND)
-"""The kinds of marks in assembler whose next instruction a linker deleted, of 4 bytes."""
 BUILD_AGAIN = "build it again, from its sources on"
 
 
@@ -103,11 +103,6 @@ def read_records(data: bytes) -> list[Mark]:
             (name, file, unit_name), end = _strings(data, at + HEADER.size, 3)
         except (struct.error, ValueError):
             raise RecordError(f"the record at byte {at:#x} isn't whole") from None
-        if kind in DELETED and name:
-            raise RecordError(
-                f"the linker deleted the instruction behind a mark of {file}:{line} {name}: "
-                "write the mark before another one"
-            )
         if kind & ~(ROUND | ONLY_FALL) or address % 4 or not name:
             raise RecordError(f"the record at byte {at:#x} is none of a mark")
         claim = Claim(file, line, name, most, number, unit, unit_name)
@@ -127,6 +122,10 @@ def _strings(data: bytes, at: int, count: int) -> tuple[list[str], int]:
         found.append(data[at:end].decode())
         at = end + 1
     return found, at
+
+
+def _all_strings(data: bytes) -> list[str]:
+    return _strings(data, 0, data.count(0))[0]
 
 
 def _have_lines(program: Program) -> bool:
@@ -160,8 +159,8 @@ class Marks:
         found = cls(program.words if words is None else words)
         try:
             marks = read_records(program.section_data(SECTION))
-            names = program.section_data(UNITS)
-            units = Counter(_strings(names, 0, names.count(0))[0])
+            units = Counter(_all_strings(program.section_data(UNITS)))
+            names = _all_strings(program.section_data(ALIASES))
         except (RecordError, UnicodeDecodeError) as damage:
             found.fault = f"{SECTION} of {program.path} is damaged: {damage}; {BUILD_AGAIN}"
             return found
@@ -173,14 +172,19 @@ class Marks:
             why = "has neither local symbols nor all lines, so folded functions aren't known"
             found.fault = f"{program.path} {why}: compile with -g, and don't strip it"
         else:
-            found._take(program, marks, units)
+            found._take(program, marks, units, dict(zip(names[::2], names[1::2])))
         return found
 
-    def _take(self, program: Program, marks: Sequence[Mark], units: Mapping[str, int]) -> None:
-        functions = Counter(it.start for it in program.functions)
+    def _take(
+        self,
+        program: Program,
+        marks: Sequence[Mark],
+        units: Mapping[str, int],
+        aliases: Mapping[str, str],
+    ) -> None:
         with_loop = {it.claim for it in marks if it.kind is Kind.LOOP}
         for mark in marks:
-            why = fault_of_number(mark.claim.most) or self._doubt_of_place(program, functions, mark)
+            why = fault_of_number(mark.claim.most) or self._doubt_of_place(program, aliases, mark)
             name = mark.claim.unit_name
             if not why and mark.claim not in with_loop:
                 why = "its FP_LOOP has no record in the executable"
@@ -194,13 +198,18 @@ class Marks:
             self._at[mark.at].append(mark)
 
     @staticmethod
-    def _doubt_of_place(program: Program, functions: Mapping[int, int], mark: Mark) -> str:
+    def _doubt_of_place(program: Program, aliases: Mapping[str, str], mark: Mark) -> str:
         """Why a mark may be of other code than that at its address; empty where it isn't."""
         function = program.function_at(mark.at)
         if function is None:
             where = f"a mark of it at {mark.at:#x}"
             return f"{where} is in no function with a size: strip removes its symbol"
-        if functions[function.start] > 1 or program.is_shared(mark.at):
+        names = sorted(it.name for it in program.functions if it.start == function.start)
+        is_of_one = is_one(names, aliases)
+        if not is_of_one and len({*names}) > 1:
+            what = f"{' and '.join(names)} share their code"
+            return f"{what}: link without --icf, and write a function in place of an alias"
+        if not is_of_one or program.is_shared(mark.at):
             return f"{function.name} shares its code with another function: link without --icf"
         return ""
 

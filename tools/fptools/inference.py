@@ -6,7 +6,7 @@ issue has to be known: where a section or a function is left by a jump or call t
 may come back, its loops have no bound here. A trap ends a visit."""
 from __future__ import annotations
 
-from dataclasses import dataclass, field
+from dataclasses import dataclass, field, replace
 from functools import cached_property
 from typing import Collection, Iterator, Mapping, Sequence
 
@@ -129,11 +129,13 @@ class Inference:
         entries: Collection[int] = (),
         exits: Collection[int] = (),
         is_entered_anywhere: bool = False,
+        callers: Sequence[Section] = (),
     ) -> list[tuple[Section, StatedLoop]]:
         """What is known of the loops of a section, and of the functions that it calls, which are
         the other parts. Code is also entered at `entries`, as those of threads, or anywhere outside
-        of a visit. The section may be left for the addresses `exits`."""
-        visit = _Visit(self, parts, frozenset(entries), is_entered_anywhere)
+        of a visit. The section may be left for the addresses `exits`. The calls of other code,
+        `callers`, are compared with the claims, as those in the parts are."""
+        visit = _Visit(self, parts, frozenset(entries), is_entered_anywhere, callers)
         return visit.stated(exits)
 
     def unreached(self, parts: Sequence[Section]) -> list[Mark]:
@@ -169,17 +171,30 @@ class _Visit:
     parts: Sequence[Section]
     entries: frozenset[int]
     is_entered_anywhere: bool
+    callers: Sequence[Section] = ()
     _values: dict[tuple[int, State | None], Values] = field(default_factory=dict)
 
     def stated(self, exits: Collection[int]) -> list[tuple[Section, StatedLoop]]:
         unseen = self._all_unseen(exits)
         found = []
         for part in self.parts:
-            calls = [] if any(unseen.values()) else list(self._calls_of(part))
-            found += [
-                (part, self._stated(part, loop, unseen[part.start], calls)) for loop in part.loops
-            ]
+            calls = [] if any(unseen.values()) else list(self._calls_of(part, self.parts))
+            others = list(self._calls_of(part, self.callers))
+            for loop in part.loops:
+                stated = self._stated(part, loop, unseen[part.start], calls)
+                found.append((part, self._compared(part, stated, others)))
         return found
+
+    def _compared(
+        self, part: Section, stated: StatedLoop, calls: Sequence[tuple[Word, State | None]]
+    ) -> StatedLoop:
+        """What is known of a loop, with the first of some calls that makes it go back more often
+        than the marks allow."""
+        if stated.by_marks is None or stated.call:
+            return stated
+        counts = ((word, self._count_for(part, stated.loop, first)) for word, first in calls)
+        over = (self._over(*it) for it in counts if _is_more(it[1], stated.by_marks))
+        return replace(stated, call=next(over, ""))
 
     def _all_unseen(self, exits: Collection[int]) -> dict[int, str]:
         """How each part, or what it calls, is left for code that isn't looked at. That code may
@@ -226,10 +241,12 @@ class _Visit:
             self._values[start, first] = self.own.values_from(start, entries, first)
         return self._values[start, first]
 
-    def _calls_of(self, part: Section) -> Iterator[tuple[Word, State | None]]:
-        """The calls of a function in all parts, with the values at its first word where a call
+    def _calls_of(
+        self, part: Section, callers: Sequence[Section]
+    ) -> Iterator[tuple[Word, State | None]]:
+        """The calls of a function in some code, with the values at its first word where a call
         passes numbers."""
-        for caller in self.parts:
+        for caller in callers:
             for word in caller.reached.values():
                 if word.flow is Flow.CALL and word.target == part.start:
                     yield word, called_with(self._values_of(caller), word)
@@ -241,12 +258,10 @@ class _Visit:
             return StatedLoop(loop, why=unseen, is_unseen=bool(unseen))
         by_marks, claims, why = self._by_marks(part, loop)
         by_code = count_of(part, loop, self._values_of(part), self.entries)
-        counts = [(word, self._count_for(part, loop, first)) for word, first in calls]
         if by_code is None and by_marks is None:
-            by_code = _largest([count for _, count in counts])
-        call = next((word for word, count in counts if _is_more(count, by_marks)), None)
-        over = "" if call is None else self._over(call, dict(counts)[call])
-        return StatedLoop(loop, by_marks, by_code, tuple(claims), why, call=over)
+            by_code = _largest([self._count_for(part, loop, first) for _, first in calls])
+        stated = StatedLoop(loop, by_marks, by_code, tuple(claims), why)
+        return self._compared(part, stated, calls)
 
     def _by_marks(self, part: Section, loop: Loop) -> tuple[int | None, list[Claim], str]:
         """The bound of a loop by claims, and these; else why they don't bound it."""

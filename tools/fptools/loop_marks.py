@@ -12,7 +12,8 @@ it; its number, line and n; its unit and function; and its order among the marks
 strings are its name, its file, and, with FP_FLOW_DIRECT, its unit. Here the unit is a checksum
 of the assembly, in exclusive or with the function's. With FP_FLOW_DIRECT it is 0, the third
 string has FP_FLOW_DIRECT and the unit's main file, and `.fp_flow_units` has that string once for
-each unit: two equal ones can't be told apart."""
+each unit: two equal ones can't be told apart. `.fp_flow_aliases` has the aliases of a unit's
+functions, which a linker's folding would look like."""
 from __future__ import annotations
 
 import re
@@ -307,7 +308,24 @@ def with_records(text: str) -> str:
         out += _record(
             number, mark, Passes.FALL if sight.behind and not keeps else Passes.ALL, unit, keeps
         )
-    return "\n".join(out)
+    return "\n".join([*out, *_aliases(reader.statements)])
+
+
+def _aliases(given: list[Statement]) -> list[str]:
+    """The lines that record the aliases of functions: global names, which no other unit defines."""
+    labels = {it.name for it in given if it.kind is Kind.LABEL}
+    rests: dict[str, set[str]] = {}
+    for it in given:
+        rests.setdefault(it.name, set()).add(it.rest.strip())
+    own = rests.get(".globl", set()) - rests.get(".weak", set())
+    pairs = [[it.strip() for it in rest.split(",")] for rest in sorted(rests.get(".set", set()))]
+    names = [
+        f'\t.asciz "{pair[0]}", "{pair[1]}"'
+        for pair in pairs
+        if len(pair) == 2 and pair[0] in own and pair[1] in labels
+    ]
+    head = '\t.pushsection .fp_flow_aliases,"",@progbits'
+    return [head, *names, "\t.popsection", ""] if names else []
 
 
 def _record(number: int, mark: re.Match[str], passes: Passes, unit: int, keeps: bool) -> list[str]:

@@ -222,9 +222,18 @@ class PathBounds:
     def _stated(self, part: Section) -> tuple[Asked, dict[int, StatedLoop]]:
         if part.start not in self._parts:
             asked = Asked(self.budget, [part], set(), part.start)
-            found = {it.loop.head: it for _, it in self.judge.stated_loops(asked)}
-            self._parts[part.start] = asked, found
+            stated = self.judge.stated_loops(asked, self._callers(part))
+            self._parts[part.start] = asked, {it.loop.head: it for _, it in stated}
         return self._parts[part.start]
+
+    def _callers(self, part: Section) -> list[Section]:
+        """The thread's code that calls a function."""
+        words = self.judge.thread(self.budget.thread).without_traps.words
+        is_call = (
+            pc for pc, it in words.items() if it.flow is Flow.CALL and it.target == part.start
+        )
+        found = {it.start: it for it in (self._part_of(Place((), pc)) for pc in is_call)}
+        return [found[start] for start in sorted(found)]
 
     def rounds(self, part: Section) -> dict[int, int]:
         """The most rounds of the loops of a function, by their heads: as its code counts or its

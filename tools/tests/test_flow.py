@@ -48,6 +48,36 @@ INNER = "FP_LOOP(j, 3); for (u32 j = 0; j < (n >> i & 3); j++) { FP_ROUND(j); co
 NESTED = f"FP_LOOP(i, 7); for (u32 i = 0; i < (n & 7); i++) {{ FP_ROUND(i); {INNER} }}"
 
 
+MARKED = {
+    # A triangle: the inner loop makes 1 to 7 rounds.
+    "triangle": "FP_LOOP(i, 7); for (u32 i = 0; i < 7; i++) { FP_ROUND(i); "
+    "FP_LOOP(j, 7); for (u32 j = 0; j <= i; j++) { FP_ROUND(j); count += a[j]; } }",
+    "bubble": "FP_LOOP(i, 7); for (int i = 7; i > 0; i--) { FP_ROUND(i); FP_LOOP(j, 7); "
+    "for (int j = 0; j < i; j++) { FP_ROUND(j); if (a[j] > a[j + 1]) a[j] = a[j + 1]; } }",
+    "byte": "FP_LOOP(i, 7); for (uint8_t i = 0; i < 7; i++) { FP_ROUND(i); count += a[i]; }",
+    "wraps": "FP_LOOP(i, 7); for (uint8_t i = 249; i; i++) { FP_ROUND(i); count += a[i & 63]; }",
+    "signed": "FP_LOOP(i, 7); int8_t i = 121; do { FP_ROUND(i); count += a[i & 63]; i++; } while (i > 0);",
+    "half": "FP_LOOP(i, 7); for (uint16_t i = 65529; i; i++) { FP_ROUND(i); count += a[i & 63]; }",
+}
+
+
+@pytest.mark.parametrize("compiler", [GCC, CLANG], ids=["gcc", "clang"])
+@pytest.mark.parametrize("level", ["-Og", "-O2", "-O3"])
+def test_marks_are_enough_for_triangles_and_for_counters_that_wrap(
+    tmp_path: Path, compiler: list[str], level: str
+) -> None:
+    """Loops that make seven rounds at most, and one round at least."""
+    functions = "".join(f"APART void {name}_(u32 n) {{ {it} }}\n" for name, it in MARKED.items())
+    calls = " ".join(f"{name}_(FP_PORT);" for name in MARKED)
+    text = f"{HEAD}{functions}void main0(void) {{ for (;;) {{ {calls} }} }}\n"
+    elf = built(tmp_path, [text], [level, "-fno-strict-overflow"], compiler)
+    for name in MARKED:
+        found = bounds(elf, f"{name}_")
+        assert all(it is not None and it <= 7 for it in found), (name, found)
+        # A compiler may unroll a loop, and make one of two.
+        assert level != "-Og" or compiler is CLANG or found and {*found} <= {6, 7}
+
+
 def test_nested_loops_have_their_own_bounds(tmp_path: Path) -> None:
     found = bounds(built(tmp_path, [f_of(NESTED)], ["-Os"]))
     assert sorted(it for it in found if it is not None) in ([2, 6], [3, 7], [2, 7], [3, 6])

@@ -7,7 +7,7 @@ from pathlib import Path
 
 import pytest
 from conftest import TOP
-from flow_build import GCC, HEAD, LD, LINK, bounds, built, run, stated
+from flow_build import CLANG, GCC, HEAD, LD, LINK, LLD, bounds, built, run, stated
 from fptools.elf import Program
 from fptools.inference import Inference, StatedLoop
 from fptools.loop_marks import with_records
@@ -220,13 +220,21 @@ part:   li t0, 38
 """
 
 
+TOOLS = {"gcc": (GCC, LD), "clang": (CLANG, LLD)}
+
+
+def all_of_assembler(folder: Path, text: str, way: str = "gcc", *options: str) -> list[StatedLoop]:
+    """The loops of main0 in a file .S."""
+    (compiler, linker), source, made = TOOLS[way], folder / "t.S", folder / "t.o"
+    source.write_text(text)
+    run(*compiler, *options, "-g", "-I", TOP / "examples/c", "-c", "-o", made, source)
+    run(*linker, "-e", "main0", "-Ttext", "0", "-o", folder / "a.elf", made)
+    return stated(folder / "a.elf")["main0"]
+
+
 def of_assembler(folder: Path, text: str) -> StatedLoop:
     """The one loop of main0 in a file .S."""
-    source, made = folder / "t.S", folder / "t.o"
-    source.write_text(text)
-    run(*GCC, "-g", "-I", TOP / "examples/c", "-c", "-o", made, source)
-    run(*LD, "-e", "main0", "-Ttext", "0", "-o", folder / "a.elf", made)
-    (loop,) = stated(folder / "a.elf")["main0"]
+    (loop,) = all_of_assembler(folder, text)
     return loop
 
 
@@ -245,7 +253,7 @@ def test_a_call_that_comes_back_elsewhere(tmp_path: Path, leaves: str, why: str)
 
 @pytest.mark.parametrize("is_deleted", [True, False])
 def test_an_instruction_that_the_linker_deletes(tmp_path: Path, is_deleted: bool) -> None:
-    """Without the instruction the mark would be at the head, which each round passes."""
+    """The mark is passed before the head, also where the instruction between them isn't there."""
     first = "lui a1, %hi(main0)" if is_deleted else "nop"
     text = f"""#include "flexpret.h"
         .globl main0
@@ -264,8 +272,55 @@ head:   addi a1, a1, 1
 """
     loop = of_assembler(tmp_path, text)
     assert loop.bound is None
-    why = "the linker deleted the instruction behind a mark of "
-    assert (why if is_deleted else "no FP_ROUND is in the loop") in loop.doubt
+    assert "no FP_ROUND is in the loop" in loop.doubt
+
+
+ALIGNED = """#include "flexpret.h"
+        .globl main0
+        .type main0, @function
+main0:  li a2, 0x20000000
+{more}        FP_LOOP(outer, 5)
+outer:  lw a1, 0(a2)
+        FP_LOOP(inner, 9)
+        FP_ROUND(outer)
+        .p2align 4
+head:   FP_ROUND(inner)
+        lw a3, 0(a2)
+        bnez a3, head
+        bnez a1, outer
+        ret
+        .size main0, .-main0
+"""
+ENTERED = """#include "flexpret.h"
+        .globl main0
+        .type main0, @function
+main0:  li a2, 0x20000000
+{more}        FP_LOOP(k, 3)
+        .balign 16
+outer:  lw a1, 0(a2)
+        FP_ROUND(k)
+        .align 4
+head:   FP_ROUND(k)
+        lw a3, 0(a2)
+        bnez a3, head
+        bnez a1, outer
+        ret
+        .size main0, .-main0
+"""
+
+
+@pytest.mark.parametrize("count", range(4))
+@pytest.mark.parametrize(
+    "way", [("gcc",), ("gcc", "-mno-relax"), ("clang", "-mno-relax")], ids=" ".join
+)
+def test_an_alignment_behind_a_mark(tmp_path: Path, way: tuple[str, ...], count: int) -> None:
+    """Whether there is padding or none, a mark is passed where it is written."""
+    more = "        addi t0, t0, 1\n" * count
+    found = all_of_assembler(tmp_path, ALIGNED.format(more=more), *way)
+    # The load before FP_ROUND(outer) may trap in a sixth round.
+    assert [it.bound for it in found] == [5, 8]
+    outer, inner = all_of_assembler(tmp_path, ENTERED.format(more=more), *way)
+    assert (outer.bound, inner.bound) == (1, 2)
 
 
 def test_a_visit_that_begins_in_a_later_round(tmp_path: Path) -> None:

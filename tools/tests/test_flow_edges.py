@@ -94,6 +94,19 @@ def test_a_mark_that_may_be_passed(tmp_path: Path, kind: int) -> None:
     assert loop.bound is None
 
 
+def test_a_way_that_only_may_pass_the_round_is_named(tmp_path: Path) -> None:
+    """One way of each round surely passes FP_ROUND, and the other one maybe."""
+    loop = loop_of(
+        tmp_path,
+        "1:\tlw a1, 0(a0)\n\tbeqz a1, 2f\n\taddi a4, a4, 1\n",
+        mark(ROUND, 1),
+        "\taddi a2, a2, 1\n\tj 3f\n",
+        mark(ROUND | ONLY_FALL, 2),
+        "2:\taddi a3, a3, 1\n3:\taddi a4, a4, 1\n\tbnez a3, 1b\n",
+    )
+    assert loop.bound is None and "no FP_ROUND(it) is on the way 0x" in loop.doubt
+
+
 CALLEE = """	.globl inner
 	.type inner, @function
 inner:

@@ -33,7 +33,8 @@ class Own(Program):
         self.has_local_symbols = True
 
     def section_data(self, name: str) -> bytes:
-        return {".fp_flow": self.data, ".fp_flow_units": self.units}[name]
+        own = {".fp_flow": self.data, ".fp_flow_units": self.units, ".fp_flow_aliases": b"g\0f\0"}
+        return own[name]
 
     def is_shared(self, address: int) -> bool:
         return False
@@ -57,10 +58,11 @@ def test_a_record() -> None:
         record(9),
         record(8, kind=2),
         record(8, kind=0x201),
+        record(8, kind=2**32 - 4),
         record(8).replace(b"tap", b""),
         record(8).replace(b"tap", b"\xff\xff\xff"),
     ],
-    ids=["end", "more", "address", "kind", "edges", "name", "text"],
+    ids=["end", "more", "address", "kind", "edges", "below 0", "name", "text"],
 )
 def test_a_damaged_section_makes_all_claims_unknown(data: bytes) -> None:
     with pytest.raises(RecordError):
@@ -94,6 +96,11 @@ def test_claims_whose_marks_may_be_of_other_code() -> None:
     two = (Function(0, 64, "same"), Function(0, 64, "same"))
     (why,) = Marks.of(Own(record(8), functions=two)).unused.values()
     assert why == "same shares its code with another function: link without --icf"
+    other = (Function(0, 64, "f"), Function(0, 64, "h"))
+    (why,) = Marks.of(Own(record(8), functions=other)).unused.values()
+    assert why.startswith("f and h share their code: link without --icf, and ")
+    alias = (Function(0, 64, "f"), Function(0, 64, "g"))
+    assert not Marks.of(Own(record(8), functions=alias)).unused
     (why,) = Marks.of(Own(record(8), functions=(Function(16, 64, "f"),))).unused.values()
     assert why == "a mark of it at 0x8 is in no function with a size: strip removes its symbol"
     (why,) = Marks.of(Own(record(8, kind=1))).unused.values()

@@ -252,7 +252,7 @@ def assembled(
 @pytest.mark.parametrize("compiler", [GCC, CLANG], ids=name_of)
 @pytest.mark.parametrize("number", [None, 3])
 def test_marks_of_assembler(tmp_path: Path, compiler: list[str], number: int | None) -> None:
-    """Each mark is of the instruction behind it, and adds none."""
+    """Each mark is a `nop` of its own: nothing that stands behind it changes when it is passed."""
     options = [] if number is None else [f"-DFP_FLOW_DIRECT={number}"]
     assert assembled(compiler, tmp_path, ASSEMBLER, *options).returncode == 0
     found = records(tmp_path / "out")
@@ -264,8 +264,12 @@ def test_marks_of_assembler(tmp_path: Path, compiler: list[str], number: int | N
     with (tmp_path / "out").open("rb") as file:
         elf = ELFFile(file)
         assert elf.get_section_by_name(".fp_flow_units").data() == unit.encode() + b"\0"
-        assert elf.get_section_by_name(".text").data_size == 7 * 4
+        words = elf.get_section_by_name(".text").data()
+    assert [at for at in range(0, len(words), 4) if words[at : at + 4] == NOP] == [0, 8, 20, 28]
+    assert len(words) == (7 + 4) * 4
 
+
+NOP = bytes.fromhex("13000000")
 
 BAD_ASSEMBLER = {
     "FP_LOOP(x, 0)": "n is at least 1",

@@ -221,3 +221,47 @@ def test_a_period_by_its_function(tool: Tool, tmp_path: Path) -> None:
     )
     status, text = built.period("--function", "work")
     assert status == 2 and "no loop of work waits" in text
+
+
+COPY = """static uint8_t one[256], other[256];
+__attribute__((noinline, noipa)) void *memcpy(void *to, const void *from, unsigned long n)
+{
+    FP_LOOP(byte, 128);
+    for (unsigned long i = 0; i < n; i++) {
+        FP_ROUND(byte);
+        ((uint8_t *)to)[i] = ((const uint8_t *)from)[i];
+        __asm__ volatile("" ::: "memory");
+    }
+    return to;
+}
+"""
+INSIDE = "__attribute__((noinline, noipa)) static void inside(void) { memcpy(one, other, SIZE); }\n"
+
+
+@pytest.mark.parametrize(
+    "body",
+    [
+        "for (;;) { memcpy(one, other, SIZE); tick(); }",
+        "for (;;) { memcpy(one, other, 8); inside(); tick(); }",
+        "memcpy(one, other, SIZE); for (;;) { memcpy(one, other, FP_PORT & 7); tick(); }",
+    ],
+    ids=["in the loop", "by a function", "before the loop"],
+)
+def test_a_call_that_passes_more_than_the_claim_says(
+    tool: Tool, tmp_path: Path, body: str
+) -> None:
+    """Wherever the thread calls it: the claim is of its whole run."""
+    status, text = Built(
+        tool, tmp_path, (COPY + INSIDE + f"{BEGIN}{body}\n}}\n").replace("SIZE", "160")
+    ).period("--ns", 20000)
+    assert status == 2 and "memcpy" in text and "by the call at 0x" in text, text
+    assert "the code counts 16" in text and "the marks state 12" in text
+    assert "correct the n of FP_LOOP" in text
+
+
+def test_a_call_that_passes_what_the_claim_says(tool: Tool, tmp_path: Path) -> None:
+    body = "for (;;) { memcpy(one, other, 128); inside(); tick(); }"
+    source = (COPY + INSIDE + f"{BEGIN}{body}\n}}\n").replace("SIZE", "100")
+    status, text = Built(tool, tmp_path, source).period("--ns", 40000)
+    assert status == 0 and "by the call at 0x" not in text, text
+    assert "goes back 127 times" in text
