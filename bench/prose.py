@@ -22,7 +22,7 @@ from pathlib import Path
 
 TOP = Path(__file__).resolve().parent.parent
 
-MOST_WORDS = 25_000
+MOST_WORDS = 22_000
 MEAN_BELOW = 18.0
 LONGEST = 35
 

@@ -117,7 +117,11 @@ class Evidence:
 
 
 def read_data(path: Path = DATA) -> dict[str, Any]:
-    """The tables of evidence.toml."""
+    """The tables of evidence.toml. What is installed by tools/install.sh has none."""
+    if not path.is_file():
+        raise NoClause(
+            f"{path} isn't there: evidence needs the repository, whose sources it quotes"
+        )
     _, values = read_toml(path)
     return values
 

@@ -282,6 +282,11 @@ def test_a_clause_that_is_gone_is_a_fault() -> None:
         crates.definition("crates/core_model/specs/View.antt", "Gone")
 
 
+def test_without_the_repository_there_is_no_evidence(tmp_path: Path) -> None:
+    with pytest.raises(NoClause, match="needs the repository"):
+        read_data(tmp_path / "evidence.toml")
+
+
 def test_clauses_have_balanced_braces() -> None:
     head = (
         "fn f()\n    requires { a }\n    ensures one { b { c } d\n        e }\n    ensures { f }\n"
