@@ -1,7 +1,6 @@
 -- What is known of a result, and more that follows from it.
-use Rattle.std.proofs.Common.{◌≡◌, Result, Ok, Err, OnOk, OnErr, Option, Some, None, true, refl}
+use Rattle.std.proofs.Common.{Result, Ok, Err, OnOk, OnErr}
 use Rattle.std.proofs.Common.{arith}
-use Rattle.std.specs.Prelude.{is_some}
 use Rattle.fp_io.specs.Causes.{Rose}
 
 pub map_ok : {T E : Type 0} → (r : Result T E) (P Q : Type 0) → OnOk r P → (P → Q) → OnOk r Q

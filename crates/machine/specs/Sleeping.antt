@@ -9,7 +9,6 @@ use Rattle.pipe_model.specs.Stages.{StageRegisters, State, Ticked, step}
 use Rattle.pipe_model.specs.Relation.{event_in, turn_at}
 use Rattle.pipe_model.specs.PipelineLaws.{empty}
 use Rattle.machine.specs.declared.state.Machine.{Machine}
-use Rattle.pipeline_core.specs.Abstraction.{abstract_stages}
 use Rattle.machine.specs.WorldRelation.{RefinesWith}
 use Rattle.core_model.specs.Cycles.{cycles_to_w}
 

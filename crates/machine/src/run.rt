@@ -1,7 +1,9 @@
 //! A run: cycles of a machine, one after another.
 
 ghost use Rattle.std.specs.Prelude.{◌≡◌, ℕ, ◌+◌, ◌-◌, ◌<◌, ◌≤◌, true, List, Option, None, []};
-ghost use Rattle.std.specs.Prelude.{OnOk, OnErr, IfErr, IfSome, vec_len, length, if◌then◌else◌};
+ghost use Rattle.std.specs.Prelude.{OnOk, OnErr, IfErr, IfSome, is_some, vec_len, length};
+ghost use Rattle.std.specs.Prelude.{if◌then◌else◌};
+ghost use Rattle.std.specs.List.{list_any};
 ghost use Rattle.fp_io.specs.Causes.{Rose};
 ghost use Rattle.timer_unit.specs.Time.{most_cycles};
 ghost use Rattle.fp_ports.specs.PluggedPorts.{Row, rows_of};
@@ -30,7 +32,7 @@ use pipeline_core::Stages;
 use rv_exec::Event;
 
 /// The loop of the last cycle of a run.
-struct Last;
+pub(crate) struct Last;
 
 /// A machine that runs, with its stage registers as the stages use them. The machine's own `pipe`
 /// is that of an earlier cycle meanwhile. A run isn't `Drop`: only `finish` ends it, which gives
@@ -68,6 +70,7 @@ impl Leaving {
 impl Run<'_> {
     /// Does one cycle. `LOOP` is a type for each loop over cycles, as
     /// [`execute_frequent`](hart_exec::execute_frequent) says.
+    #[inline(always)]
     fn tick<LOOP>(&mut self, ports: &mut Ports)
         requires cycle { self.old.machine.now.at < most_cycles }
         requires eight { vec_len ports.old ≡ 8 }
@@ -89,9 +92,7 @@ impl Run<'_> {
     {
         let machine = &mut *self.machine;
         let stages = &mut *self.stages;
-        machine.take_if_any(ports, self.loses_ports);
-        stages.tick::<LOOP>(&mut machine.units, ports, machine.at);
-        machine.at += 1;
+        machine.do_cycle::<LOOP>(stages, ports, self.loses_ports);
     }
 
     /// Skips cycles before `end` in which every thread sleeps and the pipeline is empty, in one
@@ -294,9 +295,8 @@ impl Run<'_> {
         Ok(())
     }
 
-    /// Does the last cycle, and returns the turn in `w` after it. It isn't inlined: a run calls it
-    /// once, and the loop over the other cycles has a copy of the stages.
-    #[inline(never)]
+    /// Does the last cycle, and returns the turn in `w` after it.
+    #[inline(always)]
     fn last(&mut self, ports: &mut Ports) -> Held<Written>
         requires cycle { self.old.machine.now.at < most_cycles }
         requires eight { vec_len ports.old ≡ 8 }
@@ -317,10 +317,9 @@ impl Run<'_> {
             (rows_of latched word_at ports.new.items) }
         ensures eight { vec_len ports.new ≡ 8 }
     {
-        let stages = &*self.stages;
-        let w = stages.written();
-        self.tick::<Last>(ports);
-        w
+        let machine = &mut *self.machine;
+        let stages = &mut *self.stages;
+        machine.do_last_cycle(stages, ports, self.loses_ports)
     }
 
     /// Ends the run, with this turn in `w`: the machine has its `pipe` again.
@@ -341,6 +340,62 @@ impl Run<'_> {
 }
 
 impl Machine {
+    /// Does one cycle with these stage registers, as [`Run::tick`] does. A loop over cycles calls it
+    /// by a `Run`. It takes the parts of the run, so that a run stays in registers.
+    fn do_cycle<LOOP>(&mut self, stages: &mut Stages, ports: &mut Ports, loses_ports: bool)
+        requires cycle { self.old.at < most_cycles }
+        requires eight { vec_len ports.old ≡ 8 }
+        requires known { loses_ports ≡ list_any is_some self.old.unplugs }
+        ensures relation { (s : Start) (n : ℕ) (w : Held Written)
+            → self.old.at < n + cycles_to_m
+            → RefinesWith s self.old.at n (registers_in stages.old w) self.old
+            (rows_of latched word_at ports.old.items)
+            → TicksWith s self.old.at n (rows_of latched word_at ports.old.items)
+            (registers_in stages.new (writeback_stage (held stages.old.m))) self.new
+            (rows_of latched word_at ports.new.items)
+            (retired_event (self.old.at - cycles_to_w) (held stages.old.m)) }
+        ensures at { self.new.at ≡ self.old.at + 1 }
+        ensures unplugs { self.new.unplugs ≡ self.old.unplugs }
+        ensures words { AreLeft (rows_of latched word_at ports.old.items)
+            (rows_of latched word_at ports.new.items) }
+        ensures eight { vec_len ports.new ≡ 8 }
+    {
+        self.take_if_any(ports, loses_ports);
+        stages.tick::<LOOP>(&mut self.units, ports, self.at);
+        self.at += 1;
+    }
+
+    /// Does the last cycle of a run, as [`Run::last`] does. It isn't inlined: a run calls it once,
+    /// and the loop over the other cycles has a copy of the stages.
+    #[inline(never)]
+    fn do_last_cycle(
+        &mut self,
+        stages: &mut Stages,
+        ports: &mut Ports,
+        loses_ports: bool,
+    ) -> Held<Written>
+        requires cycle { self.old.at < most_cycles }
+        requires eight { vec_len ports.old ≡ 8 }
+        requires known { loses_ports ≡ list_any is_some self.old.unplugs }
+        ensures relation { (s : Start) (n : ℕ) (w : Held Written)
+            → self.old.at < n + cycles_to_m
+            → RefinesWith s self.old.at n (registers_in stages.old w) self.old
+            (rows_of latched word_at ports.old.items)
+            → TicksWith s self.old.at n (rows_of latched word_at ports.old.items)
+            (registers_in stages.new result) self.new (rows_of latched word_at ports.new.items)
+            (retired_event (self.old.at - cycles_to_w) (held stages.old.m)) }
+        ensures fits { WrittenFits result }
+        ensures at { self.new.at ≡ self.old.at + 1 }
+        ensures unplugs { self.new.unplugs ≡ self.old.unplugs }
+        ensures words { AreLeft (rows_of latched word_at ports.old.items)
+            (rows_of latched word_at ports.new.items) }
+        ensures eight { vec_len ports.new ≡ 8 }
+    {
+        let w = stages.written();
+        self.do_cycle::<Last>(stages, ports, loses_ports);
+        w
+    }
+
     /// Puts the stage registers of `stages` into the machine, with this turn in `w`. It isn't
     /// inlined, so that a loop over lines doesn't touch the memory of its temporary values.
     #[cold]

@@ -1,11 +1,4 @@
-use Rattle.std.proofs.Common.{rules}
 use Rattle.phase_log.proofs.run.begun.Goals as goal
 
-pub returns-in-1984 : goal.returns-in-1984
-returns-in-1984 c = search rules
-
-pub returns-in-1985 : goal.returns-in-1985
-returns-in-1985 c = search rules
-
-pub returns-in_default-csr : goal.returns-in_default-csr
-returns-in_default-csr c = search rules
+pub returns : goal.returns
+returns c = rw c.in-Csr.is c.begun_by_write.ensures

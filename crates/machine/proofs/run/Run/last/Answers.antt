@@ -2,5 +2,7 @@
 use Rattle.machine.proofs.run.Run.last.Goals as goal
 
 pub returns-clause-relation : goal.returns-clause-relation
-returns-clause-relation g c s n w within st =
-    rw c.written-w.ensures.stage (c.tick.ensures.relation s n w within st)
+returns-clause-relation g c = c.do_last_cycle.ensures.relation
+
+pub returns-clause-words : goal.returns-clause-words
+returns-clause-words g c = c.do_last_cycle.ensures.words
