@@ -340,8 +340,8 @@ impl Run<'_> {
 }
 
 impl Machine {
-    /// Does one cycle with these stage registers, as [`Run::tick`] does. A loop over cycles calls it
-    /// by a `Run`. It takes the parts of the run, so that a run stays in registers.
+    /// Does one cycle with these stage registers, as [`Run::tick`] does. A loop over cycles calls
+    /// it by a `Run`. It takes the parts of the run, so that a run stays in registers.
     fn do_cycle<LOOP>(&mut self, stages: &mut Stages, ports: &mut Ports, loses_ports: bool)
         requires cycle { self.old.at < most_cycles }
         requires eight { vec_len ports.old ≡ 8 }
