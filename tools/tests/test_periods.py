@@ -259,6 +259,26 @@ def test_a_thread_that_is_not_hard(case: Case) -> None:
     assert found.status == 2 and "writes slots, modes or regions" in found.text, found
 
 
+@pytest.mark.parametrize(
+    "other",
+    [
+        # mtvec is 0 at the start, so a trap goes to address 0.
+        "ecall\n",
+        "lw x6, 1(x0)\nj other\n",
+        # mtvec is set to an address that isn't known.
+        "lw x6, 0(x6)\ncsrw mtvec, x6\necall\n",
+        "li x6, 4\ncsrrs x0, mtvec, x6\necall\n",
+    ],
+)
+def test_a_thread_with_a_permit_whose_trap_handler_writes_slots(case: Case, other: str) -> None:
+    """Thread 0 finds 0 in x5, thread 1 sets it."""
+    source = f"beq x5, x0, start\nwrite: lui x6, 0x11111\ncsrw slots, x6\nstop: j stop\nstart: {loop()}"
+    more = "[[thread]]\nid = 1\nmode = 'hard'\nentry = 0x400\npermit = true\n"
+    found = case(f"{source}.org 0x400\nli x5, 1\nother: {other}", more=more)
+    assert found.status == 2, found
+    assert "T1 has a permit and writes slots, modes or regions" in found.text
+
+
 def test_runs(case: Case) -> None:
     found = case(loop(), words=("--runs", 3000))
     assert found.text.endswith("; the longest of 14 periods takes 7, no wait is late\n"), found
