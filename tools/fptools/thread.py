@@ -163,8 +163,12 @@ class ThreadCode:
 
     @cached_property
     def whole(self) -> Reach:
-        """From the entry, and from each address that a reached word writes into mtvec."""
-        return self._with_handlers({self.entry})
+        """From the entry, from each address that a reached word writes into mtvec, and from address 0, where a trap that is
+        meant may go before that."""
+        found = self._with_handlers({self.entry})
+        sets = [word.pc for word in found.words.values() if word.writes_mtvec]
+        unset = reach(self.code, [self.entry], sets).words.values()
+        return self._with_handlers({self.entry, 0}) if any(it.traps_by_intent for it in unset) else found
 
     def _with_handlers(self, starts: set[int]) -> Reach:
         """From some addresses, and from each one that a reached word writes into mtvec."""
