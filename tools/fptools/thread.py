@@ -163,14 +163,21 @@ class ThreadCode:
 
     @cached_property
     def whole(self) -> Reach:
-        """From the entry, and from each address that a reached word writes into mtvec."""
-        starts, found = {self.entry}, self.without_traps
+        """From the entry, from each address that a reached word writes into mtvec, and from address 0, where a trap that is
+        meant may go before that."""
+        found = self._with_handlers({self.entry})
+        sets = [word.pc for word in found.words.values() if word.writes_mtvec]
+        unset = reach(self.code, [self.entry], sets).words.values()
+        return self._with_handlers({self.entry, 0}) if any(it.traps_by_intent for it in unset) else found
+
+    def _with_handlers(self, starts: set[int]) -> Reach:
+        """From some addresses, and from each one that a reached word writes into mtvec."""
         while True:
+            found = reach(self.code, starts)
             handlers = {at for word in found.words.values() if (at := self._handler(word)) is not None}
             if handlers <= starts:
                 return found
             starts |= handlers
-            found = reach(self.code, starts)
 
     def _handler(self, word: Word) -> int | None:
         return self.code.new_mtvec(word) if word.writes_mtvec else None
@@ -183,23 +190,27 @@ class ThreadCode:
     def jumps_anywhere(self) -> bool:
         """Whether it may jump to an address that isn't known: by a register, by MRET outside of a trap handler, or by a
         handler that goes on elsewhere than where the trap was or at the word behind it."""
-        if self.whole.pointers or any(word.bits == MRET for word in self.without_traps.words.values()):
+        return self._jumps_from(self.whole)
+
+    def _jumps_from(self, found: Reach) -> bool:
+        if found.pointers or any(word.bits == MRET for word in self.without_traps.words.values()):
             return True
-        return any(
-            word.writes_mepc and not self.code.skips_a_word(word) for word in self.whole.words.values()
-        )
+        return any(word.writes_mepc and not self.code.skips_a_word(word) for word in found.words.values())
 
     @property
     def may_issue(self) -> list[Word]:
         """What it may issue, by address: each word of the image, where a jump may lead anywhere."""
-        if self.jumps_anywhere:
-            return self.code.placed
-        return [word for _, word in sorted(self.whole.words.items())]
+        return self.code.placed if self.jumps_anywhere else _by_address(self.whole)
 
-    @property
+    @cached_property
     def configuration_write(self) -> Word | None:
-        """The first write of slots, modes or regions among them."""
-        return next((it for it in self.may_issue if it.writes_configuration), None)
+        """The first write of slots, modes or regions that it may issue. A trap may go to address 0, while nothing has set
+        mtvec, and anywhere, where mtvec is set to an address that isn't known."""
+        found = self._with_handlers({self.entry, 0})
+        sets = (word for word in found.words.values() if word.writes_mtvec)
+        is_anywhere = self._jumps_from(found) or any(self._handler(word) is None for word in sets)
+        words = self.code.placed if is_anywhere else _by_address(found)
+        return next((it for it in words if it.writes_configuration), None)
 
     @property
     def expiry(self) -> Word | None:
@@ -248,6 +259,10 @@ class ThreadCode:
                 is_restart = not is_meant and self.entry == handler
                 how = f"the trap handler at {handler:#x} leads here"
                 yield WayBack(called.words[entered[0]], how, not is_restart)
+
+
+def _by_address(found: Reach) -> list[Word]:
+    return [word for _, word in sorted(found.words.items())]
 
 
 @dataclass(frozen=True)

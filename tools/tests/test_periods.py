@@ -8,6 +8,8 @@ from pathlib import Path
 
 import pytest
 from conftest import Tool
+from fptools.thread import Code, ThreadCode
+from fptools.words import ECALL, MRET
 from modelled import labels_of, make, program
 
 TIME = "gt x10\ngth x11\n"
@@ -257,6 +259,37 @@ def test_a_thread_that_is_not_hard(case: Case) -> None:
     permit = loop() + ".org 0x400\nother: csrw slots, x5\nj other\n"
     found = case(permit, more="[[thread]]\nid = 1\nmode = 'soft'\nentry = 0x400\npermit = true\n")
     assert found.status == 2 and "writes slots, modes or regions" in found.text, found
+
+
+@pytest.mark.parametrize(
+    "other",
+    [
+        # mtvec is 0 at the start, so a trap goes to address 0.
+        "ecall\n",
+        "lw x6, 1(x0)\nj other\n",
+        # mtvec is set to an address that isn't known.
+        "lw x6, 0(x6)\ncsrw mtvec, x6\necall\n",
+        "li x6, 4\ncsrrs x0, mtvec, x6\necall\n",
+    ],
+)
+def test_a_thread_with_a_permit_whose_trap_handler_writes_slots(case: Case, other: str) -> None:
+    """Thread 0 finds 0 in x5, thread 1 sets it."""
+    write = "beq x5, x0, start\nwrite: lui x6, 0x11111\ncsrw slots, x6\nstop: j stop\n"
+    source = f"{write}start: {loop()}"
+    more = "[[thread]]\nid = 1\nmode = 'hard'\nentry = 0x400\npermit = true\n"
+    found = case(f"{source}.org 0x400\nli x5, 1\nother: {other}", more=more)
+    assert found.status == 2, found
+    assert "T1 has a permit and writes slots, modes or regions" in found.text
+
+
+def test_an_expiry_that_a_handler_at_address_0_arms() -> None:
+    """A trap that is meant goes there while nothing has set mtvec."""
+    handler = {0: 0x0000_400B, 4: MRET}  # ee x0, x0
+    assert ThreadCode(Code({**handler, 0x100: ECALL, 0x104: 0x6F}), 0x100).expiry is not None
+    load = 0x0000_2283  # lw x5, 0(x0)
+    assert ThreadCode(Code({**handler, 0x100: load, 0x104: 0x6F}), 0x100).expiry is None
+    set_first = {0x100: 0x0400_0293, 0x104: 0x3052_9073, 0x108: ECALL, 0x40: 0x6F}  # to 0x40
+    assert ThreadCode(Code({**handler, **set_first}), 0x100).expiry is None
 
 
 def test_runs(case: Case) -> None:
