@@ -15,7 +15,7 @@ from functools import cached_property
 from typing import Mapping
 
 from fptools.budget_files import Verdict
-from fptools.elf import Program
+from fptools.elf import Program, other_word
 from fptools.setup import Setup, ThreadTable
 from fptools.stack_depths import Depth
 from fptools.stack_flow import SP, UnknownStack, is_half
@@ -97,6 +97,8 @@ class Stacks:
         return self._found[table.id]
 
     def _known(self, table: ThreadTable) -> Stack:
+        if other := other_word(self.program, self.image):
+            return Stack(table.id, Verdict.UNKNOWN, other)
         try:
             found = deepest_of(self.setup, self.code, table, self.name)
             return self._fitting(table, found)
