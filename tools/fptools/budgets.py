@@ -22,7 +22,7 @@ from fptools.sources import Sources
 from fptools.stack_flow import SP
 from fptools.stack_threads import NO_OTHER_TRAP
 from fptools.stacks import Stack, Stacks
-from fptools.thread import Code, ThreadCode
+from fptools.thread import Code, ThreadCode, entries_of
 from fptools.values import clobbered_by
 from fptools.words import MRET, OPCODE_AUIPC, OPCODE_JALR, OPCODE_LOAD, RETURN_ADDRESS
 
@@ -255,7 +255,7 @@ class Judge:
 
     @cached_property
     def _code(self) -> Code:
-        return Code(self.image)
+        return Code(self.image, entries_of(self.setup))
 
     def thread(self, number: int) -> ThreadCode:
         """The code that a thread may run."""

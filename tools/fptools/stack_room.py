@@ -2,7 +2,7 @@
 from __future__ import annotations
 
 from dataclasses import dataclass
-from typing import Iterable, Mapping
+from typing import Collection, Iterable, Mapping
 
 from fptools.elf import Program
 from fptools.setup import DATA_START, LARGE, REGIONS, Setup
@@ -53,6 +53,28 @@ def is_data(address: int) -> bool:
     return DATA_START <= address < DATA_START + LARGE
 
 
+def own_regions(setup: Setup, own: str, at: int) -> tuple[int, int]:
+    """Where the regions of a thread around one of them begin and end."""
+    size, owners = setup.size // REGIONS, setup.values["d_regions"]
+    first = last = at
+    while first > 0 and owners[first - 1] == own:
+        first -= 1
+    while last + 1 < REGIONS and owners[last + 1] == own:
+        last += 1
+    return DATA_START + first * size, DATA_START + (last + 1) * size
+
+
+def is_outside(setup: Setup, thread: int, top: int, data: Collection[Data], address: int) -> bool:
+    """Whether an address of the regions around a stack is in no data of an executable, nor at an
+    end of such data, nor below them: what code does from there on may be anywhere in the stack."""
+    size = setup.size // REGIONS
+    start, end = own_regions(setup, f"T{thread}", (top - 1 - DATA_START) // size)
+    own = [it for it in data if OF_STACKS not in it.name]
+    below = max((it.end for it in own if it.end <= top), default=start - 1)
+    is_known = address <= below or any(it.start <= address <= it.end for it in own)
+    return start <= address < end and not is_known
+
+
 def room_of(setup: Setup, thread: int, top: int, data: Iterable[Data]) -> Room:
     """The room of a thread's stack below its top. It has none where its stores trap."""
     size, owners, own = setup.size // REGIONS, setup.values["d_regions"], f"T{thread}"
@@ -65,9 +87,7 @@ def room_of(setup: Setup, thread: int, top: int, data: Iterable[Data]) -> Room:
     if owner != own:
         whose = f"the region is {owner}'s" if owner else "which is no address of data"
         return Room(top, 0, f"{top:#x}: each store traps, {whose}")
-    while at > 0 and owners[at - 1] == own:
-        at -= 1
-    low, below = DATA_START + at * size, f"the end of the regions of {own}"
+    low, below = own_regions(setup, own, at)[0], f"the end of the regions of {own}"
     for it in data:
         is_kept_free = OF_STACKS in it.name and it.holds(top - 1)
         end = it.start if is_kept_free else min(it.end, top)

@@ -18,6 +18,7 @@ from fptools.stack_flow import (
     first_of,
     is_half,
 )
+from fptools.stack_pointers import Pointers
 from fptools.stack_room import is_data
 from fptools.thread import Code, ThreadCode, reach
 from fptools.values import Value
@@ -37,6 +38,9 @@ class Deepest:
         tuple[int, int, int], ...
     ]  # words that use a fixed address of data: word, address, bytes
     notes: tuple[str, ...]
+    pointers: tuple[
+        tuple[int, int], ...
+    ] = ()  # words that store by a pointer, with a number that it may come from
 
 
 def deepest_of(
@@ -188,7 +192,8 @@ class Looked:
         depth = Depth(own.bytes + sum(it.bytes for it in handlers), steps)
         if not self.handlers:
             notes.append(WITHOUT_TRAPS)
-        return Deepest(top, depth, tuple(self._uses()), tuple(notes))
+        pointers = Pointers(self.code, self.all, self.functions.done, self.handlers.values())
+        return Deepest(top, depth, tuple(self._uses()), tuple(notes), tuple(pointers.stores()))
 
     def _main_depth(self) -> tuple[int, Depth]:
         """The number that sp is set to, and the deepest point below it without traps."""

@@ -15,13 +15,13 @@ from functools import cached_property
 from typing import Mapping
 
 from fptools.budget_files import Verdict
-from fptools.elf import Program
+from fptools.elf import Program, other_word
 from fptools.setup import Setup, ThreadTable
 from fptools.stack_depths import Depth
 from fptools.stack_flow import SP, UnknownStack, is_half
-from fptools.stack_room import Data, data_of, is_data, room_of
+from fptools.stack_room import Data, data_of, is_data, is_outside, room_of
 from fptools.stack_threads import Deepest, deepest_of
-from fptools.thread import Code, ThreadCode
+from fptools.thread import Code, ThreadCode, entries_of
 from fptools.words import (
     OPCODE_AUIPC,
     OPCODE_BRANCH,
@@ -84,7 +84,7 @@ class Stacks:
 
     def __init__(self, setup: Setup, image: Mapping[int, int], program: Program) -> None:
         self.setup, self.image, self.program = setup, image, program
-        self.code = Code(image)
+        self.code = Code(image, entries_of(setup))
         self._found: dict[int, Stack] = {}
 
     def all(self) -> list[Stack]:
@@ -97,6 +97,8 @@ class Stacks:
         return self._found[table.id]
 
     def _known(self, table: ThreadTable) -> Stack:
+        if other := other_word(self.program, self.image):
+            return Stack(table.id, Verdict.UNKNOWN, other)
         try:
             found = deepest_of(self.setup, self.code, table, self.name)
             return self._fitting(table, found)
@@ -143,6 +145,8 @@ class Stacks:
         used = [Data(f"what {self.where(pc)} uses", at, at + size) for pc, at, size in found.uses]
         room = room_of(self.setup, table.id, found.top, [*self._data, *used])
         is_over = found.depth.bytes > room.bytes
+        if not is_over:
+            self._look_at_pointers(table, found)
         frames = self._frames(found.depth)
         text = f"{found.depth.bytes:,} of {room.bytes:,} bytes: {' > '.join(map(str, frames))}"
         text += f"; below is {room.below}" if is_over else ""
@@ -151,6 +155,14 @@ class Stacks:
             *(table.id, verdict, text, found.depth.bytes, room.bytes, found.top, frames),
             notes=(*found.notes, *self._configured),
         )
+
+    def _look_at_pointers(self, table: ThreadTable, found: Deepest) -> None:
+        """No store goes by a pointer that begins where a stack may be, and no data are."""
+        data = self._data if self.program.path else ()
+        for pc, number in found.pointers:
+            if is_outside(self.setup, table.id, found.top, data, number):
+                why = f"it stores by a pointer from {number:#x}, where no data of the executable"
+                raise UnknownStack(pc, f"{why} are: how far it gets isn't known")
 
     @cached_property
     def _configured(self) -> list[str]:

@@ -6,7 +6,7 @@ from functools import cached_property
 from typing import Collection, Iterator, Mapping
 
 from fptools.section import Section
-from fptools.setup import LARGE
+from fptools.setup import LARGE, Setup
 from fptools.words import (
     CSR_MEPC,
     EBREAK,
@@ -31,6 +31,8 @@ class Code:
     """The words of an image's instruction scratchpad; one that nothing places is 0, which is no instruction."""
 
     words: Mapping[int, int]
+    entries: Collection[int] = ()
+    """Where threads begin, with registers that the word before didn't give."""
 
     def word(self, pc: int) -> Word:
         return Word(pc, self.words.get(pc, 0))
@@ -43,7 +45,8 @@ class Code:
     def _led_to(self) -> set[int]:
         """The addresses to which jumps lead, also those by registers with known numbers, and those that words write into
         mtvec: control comes there from elsewhere than the word before."""
-        found = {word.target for word in self.placed if word.is_code and word.target is not None}
+        jumps = {word.target for word in self.placed if word.is_code and word.target is not None}
+        found = jumps | {*self.entries}
         while True:
             numbers = (self._number(word, found) for word in self.placed)
             more = {at for at in numbers if at is not None}
@@ -114,6 +117,11 @@ class Code:
         if word.funct3 == CSRRWI:
             return word.rs1 & ~3
         return self._number(word, self._led_to) if word.funct3 == CSRRW else None
+
+
+def entries_of(setup: Setup) -> frozenset[int]:
+    """Where the threads of a setup begin."""
+    return frozenset(it.entry for it in setup.threads)
 
 
 @dataclass

@@ -13,6 +13,7 @@ from pathlib import Path
 import pytest
 from conftest import TOOLS, TOP, Tool
 from fptools.trace import read_trace
+from test_flexpret import Checkout
 
 PROGRAM = Path(os.environ.get("LOOP_CLI", TOP / "crates/loop_cli/out/loop_cli"))
 """The built program."""
@@ -239,3 +240,40 @@ def test_a_list_with_a_second_plant_of_the_thread_is_refused(tool: Tool, tmp_pat
 def test_wrong_arguments(call: list[object], said: str, tool: Tool) -> None:
     ran = tool("fp_plant", *call)
     assert ran.returncode == 2 and said in ran.stderr and "Traceback" not in ran.stderr
+
+
+def test_the_program_is_built_once_by_the_script(tmp_path: Path) -> None:
+    """Where none is built: a stand-in for `rt` leaves one that names its words and ends."""
+    checkout = Checkout(tmp_path / "top", crate="loop_cli")
+    (checkout.folder / "crates/loop_cli/src").mkdir(parents=True)
+    (checkout.folder / "crates/loop_cli/src/lib.rt").write_text("")
+    crates = checkout.folder / "crates.txt"
+    crates.write_text(crates.read_text() + "loop_cli: middle\n")
+    said = tmp_path / "said"
+    program = f'#!/bin/sh\necho "${{0##*/}} $3 $4 $5" >>{said}\nexit 9\n'
+    environment = {**checkout.environment, "RT_PROGRAM": program, "FLEXPRET_PROCESSORS": "1"}
+    environment.pop("LOOP_CLI", None)
+    call = [sys.executable, "tools/fp_plant", str(TOP / SETUP), *words()[2:], *plant(ECHO)]
+    for log in (["middle", "beside", "low", "loop_cli"], []):
+        checkout.log.write_text("")
+        ran = subprocess.run(
+            call, cwd=checkout.folder, env=environment, capture_output=True, text=True, check=False
+        )
+        built = [it.split()[1] for it in checkout.log.read_text().splitlines() if "done" in it]
+        assert (ran.returncode, sorted(built)) == (2, sorted(log)), ran.stderr
+    assert said.read_text() == "loop_cli 0 100 160000\n" * 2
+
+
+def test_a_program_that_cannot_be_built(tmp_path: Path) -> None:
+    """Then fp_plant ends with 2, and the last line says so."""
+    checkout = Checkout(tmp_path / "top", crate="loop_cli")
+    (checkout.folder / "crates/loop_cli/src").mkdir(parents=True)
+    (checkout.folder / "crates/loop_cli/src/lib.rt").write_text("")
+    environment = {**checkout.environment, "RT_STATUS": "1"}
+    environment.pop("LOOP_CLI", None)
+    call = [sys.executable, "tools/fp_plant", str(TOP / SETUP), *words()[2:], *plant(ECHO)]
+    ran = subprocess.run(
+        call, cwd=checkout.folder, env=environment, capture_output=True, text=True, check=False
+    )
+    last = ran.stderr.splitlines()[-1]
+    assert (ran.returncode, last) == (2, "fp_plant: without loop_cli there is no run"), ran.stderr

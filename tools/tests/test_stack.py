@@ -12,6 +12,7 @@ from fptools.elf import Program
 from fptools.image import read_image, write_image
 from fptools.setup import read_setup
 from fptools.stacks import Stack, Stacks
+from fptools.thread import Code, ThreadCode
 from modelled import assembled, setup_text
 from stack_programs import LEVELS, Built, built
 
@@ -42,12 +43,16 @@ UNKNOWN_ASSEMBLER = {
     "returns_from_trap": "a trap handler returns by `ret`: x1 is that of the code that trapped",
     "large_frame": "f+0x8 (t0_large_frame.s:8): sp is above where it was at the call",
     "skips_two": "a trap handler comes back to an address that isn't known",
+    "walks": "0x30 next (t0_walks.s:8): it stores by a pointer from 0x20000700, where no data of",
+    "indexes": "it stores by a pointer from 0x20000700, where no data of the executable are",
+    "passes": "it stores by a pointer from 0x20000700, where no data of the executable are",
     "unlinked": "main0 (t0_unlinked.s:4): a call by x5: -mno-save-restore calls by x1 only",
 }
 HOLDS_ASSEMBLER = {
     "low_store": "100 of 2,048 bytes: main0 (100)",
     "skips": "64 of 2,048 bytes: loop (16) > f (32) > trap: handler (16)",
     "restarts": "16 of 2,048 bytes: loop (16)",
+    "walks_data": "32 of 1,792 bytes: main0 (32)",
     "safe_loop": "144 of 2,048 bytes: main0 (16) > trap: handler (64) > trap: handler (64)",
 }
 COMPILED = [
@@ -245,3 +250,17 @@ def test_regions_that_a_thread_writes(flexpret: str, tmp_path: Path) -> None:
     found = Stacks(read_setup(made.setup), words, Program(None)).all()
     note = "assumes that regions stay as the setup has them: T5 writes slots, modes or regions"
     assert found[0].notes == (note,)
+
+
+def test_an_entry_is_no_word_behind_another(tmp_path: Path) -> None:
+    """Thread 1 begins behind the word that gives x5 a number, which its jump goes by."""
+    source = (
+        "addi x5, x0, 0x40\njalr x0, 0x100(x5)\n.org 0x100\nhere: csrrw x0, slots, x5\nj here\n"
+        ".org 0x140\nstays: j stays\n"
+    )
+    (tmp_path / "own.fpx").write_bytes(assembled(source).written())
+    words, second = read_image(tmp_path / "own.fpx"), 4
+    code = Code(words, [0, second])
+    assert code.jump_target(code.word(4)) is None and Code(words).jump_target(code.word(4)) == 0x140
+    assert ThreadCode(code, second).configuration_write is not None
+    assert ThreadCode(Code(words), second).configuration_write is None

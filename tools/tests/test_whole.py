@@ -9,6 +9,7 @@ from xml.etree import ElementTree
 import pytest
 from conftest import TOP, Tool
 from fptools.budget_files import Budget, PeriodOf, Result, Verdict
+from fptools.image import read_image, write_image
 from fptools.setup import ThreadTable
 from fptools.stacks import Stack
 from fptools.whole import ThreadAnswer, load_of
@@ -187,6 +188,19 @@ def test_what_an_asleep_thread_and_one_without_a_slot_get(bad: Whole) -> None:
         )
     finally:
         bad.change(".*", before.replace("\\", r"\\"))
+
+
+def test_an_image_of_another_executable(bad: Whole, tmp_path: Path) -> None:
+    """Nothing holds, also no stack: the data and names are those of the executable."""
+    bad.change('image = ".*?"', f'image = "{tmp_path / "other.fpx"}"')
+    try:
+        words = read_image(bad.folder / "it.fpx")
+        (tmp_path / "other.fpx").write_bytes(write_image({**words, 0: 0x6F}))
+        ran = bad("--all")
+        assert ran.returncode == 2 and "holds" not in ran.stdout
+        assert "UNKNOWN  T0 stack: 0x0 start0: the image isn't made of it.elf" in ran.stdout
+    finally:
+        bad.change('image = ".*?"', 'image = "it.fpx"')
 
 
 def test_an_entry_without_code(bad: Whole) -> None:
