@@ -76,7 +76,7 @@ OPTIONAL = {'xdist', 'jinja2', 'selenium', 'scipy'}
 APT_SECONDS = 600
 """The time limit of a call of apt-get."""
 
-PART_SECONDS = 1800
+PART_SECONDS = 3600
 """The time limit of a part. One that takes longer has failed."""
 
 SHOWN = 60
