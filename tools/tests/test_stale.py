@@ -233,28 +233,12 @@ def test_each_object_has_its_sources(
         record = Program(build.elf).record
         assert record is not None
         named = {"t0_v.c", "filter.h", "flexpret.h", "start.s", "inner.s"}
-        assert named <= {it for it in record if not it.startswith("/")} <= named | {"t1_w.c"}
-        assert any(it.endswith("/stdint.h") for it in record)
+        assert named <= record.keys() <= named | {"t1_w.c"}
         assert all(sums == {checksum(build.folder / name)} for name, sums in record.items())
     (build.folder / "inner.s").write_text("        nop\n        nop\n")
     assert build.make(*words, *more, *linker, options="OPTIONS=-O2 -g -ffunction-sections") == [
         "start.s"
     ]
-
-
-def test_a_header_of_the_system_counts(build: Build, tool: Tool) -> None:
-    """One that -isystem finds, whose loop may be the one that is bounded."""
-    (build.folder / "system").mkdir()
-    options = "OPTIONS=-O2 -g -isystem system -I."
-    header = (build.folder / "filter.h").rename(build.folder / "system/filter.h")
-    (build.folder / "t0_v.c").write_text(MAIN.replace('"filter.h"', "<filter.h>"))
-    build.make(options=options)
-    assert build.budget(tool)[0] == 0
-    header.write_text(FILTER.format(rounds=7))
-    text = "filter.h isn't what own.elf was built from"
-    status, line = build.budget(tool)
-    assert (status, text in line) == (2, True)
-    assert build.make(options=options) == ["t0_v.laid.s"]
 
 
 def test_a_header_that_is_gone_stops_nothing(build: Build) -> None:
