@@ -217,7 +217,7 @@ def test_a_called_function_that_never_returns(asking: Tool, tmp_path: Path) -> N
     table = section('"start0"', '"stopped0"', "cycles = 1000\ncalls = true")
     status, lines = judged(asking, tmp_path, PID, table)
     assert status == 2
-    assert lines[0].startswith("UNKNOWN  T0 it: status 6: refused bound")
+    assert lines[0].startswith("UNKNOWN  T0 it: 0x1a4 step_end: a timed wait: it has no bound;")
 
 
 def test_an_image_of_another_executable(asking: Tool, tmp_path: Path) -> None:

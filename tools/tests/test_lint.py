@@ -15,6 +15,9 @@ EXAMPLES = sorted(
     str(it.relative_to(TOP)) for it in TOP.glob("examples/**/*.toml") if it.name != "budgets.toml"
 )
 EXAMPLES.remove(QUIET)
+UNBUILT = "examples/current/current.toml"
+"""The setup of the case study, whose image the page makes."""
+EXAMPLES.remove(UNBUILT)
 
 
 def said(tool: Tool, folder: Path, text: str, *options: str) -> tuple[int, list[str]]:
@@ -32,6 +35,12 @@ def changed(*changes: tuple[str, str]) -> str:
         assert text.count(old) == 1, old
         text = text.replace(old, new)
     return text
+
+
+def test_a_setup_whose_image_is_made_later(tool: Tool) -> None:
+    status, lines = fine(tool, UNBUILT)[:2]
+    assert status == 1
+    assert lines == ["4: warning: image: current/current.fpx can't be read from here: No such file or directory"]
 
 
 @pytest.mark.parametrize("setup", EXAMPLES)

@@ -145,7 +145,7 @@ def test_the_json_document_and_the_junit_file(named: Named) -> None:
         (("x.elf", "--setup", "x.toml", "--thread", "0", "--from-label", "a"), "go together"),
         (
             ("x.elf", "y.toml", "--setup", "x.toml", "--thread", "0", "--function", "f"),
-            "there are no BUDGETS",
+            "BUDGETS takes no thread, function",
         ),
         (
             ("x.elf", "--setup", "x.toml", "--thread", "0", "--function", "f", "--cycles", "0"),

@@ -87,16 +87,6 @@ impl Port for PlainPort {
     }
 }
 
-/// Eight devices.
-fn plain_ports(alloc: Global) -> Result<Ports, AllocError> {
-    let mut ports: Ports = Vec::new(alloc);
-    for _thread in 0..THREADS {
-        let held = HeldPort::new(alloc);
-        ports.push(Some(Box::new(alloc, PlainPort { held })?))?;
-    }
-    Ok(ports)
-}
-
 /// Whether a command over such files, sink and devices has the status and the text of the table.
 fn has_result(alloc: Global, case: &Case<'_>, command: &Command<'_>) -> Result<bool, AllocError> {
     let words = words_of(alloc, command.line)?;
@@ -106,7 +96,11 @@ fn has_result(alloc: Global, case: &Case<'_>, command: &Command<'_>) -> Result<b
     let mut out = PlainSink {
         out: sink_of(alloc, command.fails.put)?,
     };
-    let mut ports = plain_ports(alloc)?;
+    let mut ports: Ports = Vec::new(alloc);
+    for _thread in 0..THREADS {
+        let held = HeldPort::new(alloc);
+        ports.push(Some(Box::new(alloc, PlainPort { held })?))?;
+    }
     if ports.len() != 8 {
         return Ok(false);
     }
