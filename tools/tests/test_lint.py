@@ -38,9 +38,9 @@ def changed(*changes: tuple[str, str]) -> str:
 
 
 def test_a_setup_whose_image_is_made_later(tool: Tool) -> None:
-    status, lines = fine(tool, UNBUILT)[:2]
-    assert status == 1
-    assert lines == ["4: warning: image: current/current.fpx can't be read from here: No such file or directory"]
+    ran = tool("fp_lint", UNBUILT)
+    text = "4: warning: image: current/current.fpx can't be read from here: No such file or directory"
+    assert (ran.returncode, ran.stdout, ran.stderr) == (1, f"{UNBUILT}:{text}\n", "")
 
 
 @pytest.mark.parametrize("setup", EXAMPLES)
