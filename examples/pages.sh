@@ -81,7 +81,7 @@ as_in /dev/null './flexpret-view turns examples/drive.toml --from 0 --to 80 --vc
 # The stored dump is of three cycles less.
 head -n "$(($(wc -l <"$here/drive.vcd") - 3))" drive.vcd | cmp - <(head -n -3 "$here/drive.vcd") || fail 'drive.vcd'
 as_in /dev/null './flexpret-view turns examples/drive.toml --from 0 --to 80 --konata drive.log'
-"$top/bench/kanata.py" drive.log || fail 'drive.log'
+PYTHONPATH=$top python3 -m dev.fuzz.kanata drive.log || fail 'drive.log'
 as_in "$here/drive.trace" 'python3 -m model run examples/drive.toml --thread 0 --cycles 77'
 as_in "$here/c/pid.bound" 'python3 -m model bound examples/c/pid.toml --thread 0 --from 0xb4 --to 0x1a4'
 

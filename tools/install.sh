@@ -32,17 +32,18 @@ put() {
     install -D -m 644 "$tools/flexpret.bash" "$prefix/share/bash-completion/completions/$3"
 }
 
-# The tools that the scripts call, the schemas that they read, and the modules of the model that they import.
+# The tools that the scripts call, their package, the schemas, and the model.
 put_tools() {
     local file
     for file in "$tools"/fp* "$tools"/launch.bash "$tools"/*.schema.json; do
         [ -d "$file" ] || install -D -m "$([ -x "$file" ] && echo 755 || echo 644)" "$file" "$home/tools/${file##*/}"
     done
-    for file in "$tools"/fplaunch/*.py "$tools"/fptools/{,html/}*.py "$tools"/fptools/{html/templates,new}/*; do
-        install -D -m 644 "$file" "$home/tools/${file#"$tools/"}"
-    done
+    while read -r file; do
+        install -D -m 644 "$tools/$file" "$home/tools/$file"
+    done < <(cd "$tools" && find fptools \( -name tests -o -name testing -o -name __pycache__ \) -prune -o -type f -print)
+    # The model, for --model.
     for file in "$top"/model/*.py; do
-        install -D -m 644 "$file" "$home/model/${file##*/}"
+        install -D -m 644 "$file" "$home/tools/model/${file##*/}"
     done
     # fp_new makes programs of them.
     for file in Makefile flexpret.h flexpret.ld start.s; do

@@ -62,7 +62,7 @@ writes pid.trace run examples/c/pid.toml --thread 0 --cycles 1250
 writes pid.bound bound examples/c/pid.toml --thread 0 --from 0xb4 --to 0x1a4
 
 # The copies that the gate's rows read.
-"$top/bench/examples.sh" || fail bench/examples.sh
+"$top/dev/gate/examples.sh" || fail dev/gate/examples.sh
 
 # The same program by clang: other addresses and cycles, but the same words at the port.
 if command -v clang >/dev/null && command -v ld.lld >/dev/null; then

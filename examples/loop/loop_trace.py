@@ -6,12 +6,10 @@ from __future__ import annotations
 
 import sys
 from collections.abc import Iterable, Iterator
-from pathlib import Path
 
-sys.path.insert(0, str(Path(__file__).resolve().parents[2] / "tools"))
 
-from fptools.trace import Event, read_trace  # noqa: E402
-from fptools.trace_blocks import BrokenTrace  # noqa: E402
+from fptools.files.trace import Event, read_trace
+from fptools.files.trace_blocks import BrokenTrace
 
 PORT = 0x4000_0000
 """The address of a thread's port."""

@@ -11,11 +11,10 @@ import sys
 from dataclasses import dataclass
 from pathlib import Path
 
-sys.path.insert(0, str(Path(__file__).resolve().parents[2] / "tools"))
 
-from fptools.answers import Bound, read_answer  # noqa: E402
-from fptools.setup import read_setup  # noqa: E402
-from make import LOOP_NS  # noqa: E402
+from fptools.program.answers import Bound, read_answer
+from fptools.files.setup import read_setup
+from make import LOOP_NS
 
 HEADER = "name slots period budget bound fold slack".split()
 

@@ -8,6 +8,8 @@ import sys
 from pathlib import Path
 from typing import NoReturn
 
+from fptools.checkout import TOOLS
+
 PACKAGES = {
     "elftools": ("pyelftools", "python3-pyelftools"),
     "jsonschema": ("jsonschema", "python3-jsonschema"),
@@ -52,7 +54,7 @@ def require(*modules: str) -> None:
 def try_debian(*modules: str) -> None:
     """Runs this call again by Debian's Python, if a tool was called and that Python has the modules."""
     script = Path(sys.argv[0] if sys.argv else "")
-    is_tool = script.name.startswith("fp_") and script.is_file() and script.resolve().parent == Path(__file__).resolve().parents[1]
+    is_tool = script.name.startswith("fp_") and script.is_file() and script.resolve().parent == TOOLS
     flags = sys.orig_argv[1 : len(sys.orig_argv) - len(sys.argv)]
     if TRIED or not is_tool or not os.access(DEBIAN, os.X_OK):
         return

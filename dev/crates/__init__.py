@@ -1,0 +1,1 @@
+"""Checks of the crates: public names, exports, layers, line widths."""

@@ -1,0 +1,1 @@
+"""Measurements: speed, stages, proof times, bounds of shapes."""

@@ -1,0 +1,1 @@
+"""Mutants: random changes of bodies, and the stored edits outside of the gate."""

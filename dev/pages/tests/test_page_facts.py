@@ -1,0 +1,230 @@
+"""Statements of the pages that no table holds: each is compared with the tree or the model."""
+from __future__ import annotations
+
+import os
+import re
+import subprocess
+import sys
+import tomllib
+from pathlib import Path
+
+import pytest
+from fptools.testing.common import TOP, document
+
+
+def text_of(page: str) -> str:
+    """A page of docs/ as one line, with single spaces."""
+    return " ".join(document(page).read_text().split())
+
+
+def asked(*words: str) -> str:
+    """What the model writes."""
+    ran = subprocess.run(
+        [sys.executable, "-m", "model", *words], cwd=TOP, capture_output=True, text=True, check=True
+    )
+    return ran.stdout
+
+
+def test_cycle_0_is_the_first_one_even_if_nothing_is_fetched(tmp_path: Path) -> None:
+    assert "whether or not something is fetched in it" in text_of("FLEXPRET.md")
+    setup = (TOP / "examples/sum.toml").read_text()
+    first = tmp_path / "first.toml"
+    first.write_text(
+        re.sub(
+            r"^slots = .*$", 'slots = ["S", "T0", "S", "S", "D", "D", "D", "D"]', setup, flags=re.M
+        )
+    )
+    trace = asked("run", str(first), "--thread", "0", "--cycles", "20").splitlines()
+    assert int(trace[0][:10]) == 1
+
+
+def test_places_have_each_spelling_and_the_counts() -> None:
+    ran = subprocess.run(
+        [sys.executable, "-m", "dev.pages.places", "--lines", "gth", "ee"],
+        cwd=TOP,
+        capture_output=True,
+        text=True,
+        check=True,
+    )
+    for place in (
+        "docs/BOUNDS.md",
+        "docs/GLOSSARY.md",
+        "docs/dev/DEFINITIONS.md",
+        "docs/C.md",
+        "examples/c/flexpret.h",
+        "rtl/flexpret.sv",
+    ):
+        assert f"  {place}: " in ran.stdout
+    _, _, counted = ran.stdout.partition("the number of timing instructions:")
+    assert counted.split() == ["README.md", "docs/FLEXPRET.md"]
+
+
+def test_the_recipe_for_a_thread_3_is_a_whole_table(tmp_path: Path) -> None:
+    """The table has the keys that a setup requires, and the model takes it. C leads to it."""
+    page = document("PROGRAMMING.md").read_text()
+    shown = re.findall(r"^ {7}(\[\[thread\]\]\n(?: {7}.*\n)+)", page, re.M)
+    (table,) = [it for it in shown if "id = 3" in it]
+    table = re.sub(r"^ +", "", table, flags=re.M)
+    (thread,) = tomllib.loads(table)["thread"]
+    assert thread == {"id": 3, "mode": "hard", "entry": 0x1800, "confined": True}
+    setup = tmp_path / "more.toml"
+    setup.write_text((TOP / "examples/calls.toml").read_text() + "\n" + table)
+    asked("run", str(setup), "--thread", "3", "--cycles", "9")
+    assert "](PROGRAMMING.md#to-set-up-one-more-thread)" in document("C.md").read_text()
+
+
+def test_each_folder_with_a_try_sh_is_named() -> None:
+    page = (TOP / "examples/README.md").read_text()
+    folders = [it.parent.name for it in (TOP / "examples").glob("*/try.sh")]
+    assert len(folders) >= 5
+    for folder in folders:
+        assert f"`{folder}`" in page and f"]({folder}" in page, folder
+
+
+def test_each_setup_of_the_examples_has_a_row() -> None:
+    page = (TOP / "examples/README.md").read_text()
+    for setup in (TOP / "examples").glob("*.toml"):
+        assert f"]({setup.name})" in page, setup.name
+
+
+def test_figures_show_files_that_the_pages_have() -> None:
+    drawn = re.findall(r">(t\d_\w+)\.c<", (TOP / "docs/flow.svg").read_text())
+    assert drawn
+    for name in drawn:
+        assert f"own/{name}.c" in document("C.md").read_text()
+
+
+def test_the_view_has_what_the_definition_has() -> None:
+    """The fields of a view, and the word of the page for each."""
+    defined = (TOP / "crates/core_model/specs/View.antt").read_text()
+    fields = set(re.findall(r"^  pub (\w+) : ", defined, re.M))
+    words = {
+        "period": "period",
+        "size": "size of the scratchpads",
+        "thread": "its number",
+        "own": "slots",
+        "i_kinds": "kinds of the regions",
+        "d_kinds": "kinds of the regions",
+        "i_words": "own regions and the read only ones",
+        "d_words": "own regions and the read only ones",
+        "setting": "view",
+        "first": "entry",
+        "shown": "words at its port",
+    }
+    assert fields == set(words)
+    page = text_of("ASSUMPTIONS.md")
+    for word in words.values():
+        assert word in page[page.index("The *view* is") :]
+
+
+@pytest.mark.parametrize("page", ["VIEW.md", "COMMANDS.md"])
+def test_the_status_of_the_scripts_is_named(page: str) -> None:
+    (number,) = re.findall(
+        r"^readonly NOT_BUILT=(\d+)$", (TOP / "tools/launch.bash").read_text(), re.M
+    )
+    assert number in text_of(page)
+
+
+def test_the_region_in_the_first_program() -> None:
+    """Data region 2 begins at the address that `lui` gives, as the comment says."""
+    assert "lui  x1, 0x20001        # data region 2" in document("FIRST.md").read_text()
+    assert 0x2000_0000 + 2 * 2048 == 0x2000_1000
+
+
+def test_the_gate_runs_the_model() -> None:
+    page, gate = (TOP / "model/README.md").read_text(), (TOP / "dev/gate/gate.py").read_text()
+    assert "'-m', 'model.tables.check'" in gate and "pytest('model', 'model', 1)" in gate
+    assert "The gate runs its tests" in page and "--model" in page
+
+
+PAGES = sorted(
+    [
+        TOP / "README.md",
+        *(TOP / "docs").glob("*.md"),
+        TOP / "docs/dev/DEVICES.md",
+        TOP / "tools/README.md",
+    ]
+    + [TOP / "model/README.md", TOP / "rtl/README.md", *(TOP / "examples").rglob("README.md")]
+)
+"""The pages for users, and those with commands that they show."""
+
+COMMAND = re.compile(
+    r"^    (?:\./|tools/|examples/|crates/|model/|rtl/|work/|python3 |make |cc |cd |rt"
+    r" |riscv64-|apt-get |gtkwave |sbatch )"
+)
+
+NOT_SHOWN_AS_RUN = {
+    "apt-get ": "installs packages",
+    "gtkwave ": "opens a window",
+    "sbatch ": "needs a batch system",
+    "./test": "the gate itself",
+    "model/check.sh": "its two halves are parts of the gate",
+    "examples/sweep/make.py work": "examples/sweep/try.sh, with fewer setups",
+    "work/sweep.sh": "the same",
+    "examples/sweep/table.py work": "the same",
+    "cd work && gnuplot": "gnuplot isn't asked for",
+    "tools/fp_budget prog.elf": "a form, with names of the reader's own",
+    "riscv64-unknown-elf-readelf": "examples/pages.sh runs it on another executable",
+    "riscv64-unknown-elf-gcc": "a form; the Makefile of examples/c has the same options",
+    "tools/fp_layout x.s": "a part of that form",
+    "tools/fp_budget first.toml period.toml": "dev/pages/tests/test_page_facts.py",
+}
+"""Commands without a `$`, each with where it is run, or why it isn't."""
+
+
+def test_each_command_of_a_page_is_run() -> None:
+    """With a `$` by the script of its page; else by examples/pages.sh, or as said above."""
+    listed = (TOP / "examples/pages.sh").read_text()
+    for page in PAGES:
+        for line in page.read_text().splitlines():
+            command = line.strip()
+            if COMMAND.match(line) and command not in listed:
+                assert any(
+                    command.startswith(it) for it in NOT_SHOWN_AS_RUN
+                ), f"{page.name}: {command}"
+
+
+def test_each_page_with_commands_has_a_script() -> None:
+    scripts = [
+        *(TOP / "examples").rglob("*.sh"),
+        TOP / "rtl/try.sh",
+        TOP / "tools/fptools/commands/tests/test_readme.py",
+    ]
+    text = "\n".join(it.read_text() for it in scripts)
+    for page in PAGES:
+        if re.search(r"^    \$ ", page.read_text(), re.M):
+            read = (
+                rf"\b{page.stem}\b"
+                if page.stem != "README"
+                else f"{page.parent.name}.*README.md|README.md"
+            )
+            assert re.search(read, text), page
+
+
+def test_the_period_of_the_first_program(flexpret: str, tmp_path: Path) -> None:
+    """The last commands of FIRST's section 4, which need the packages of the tools."""
+    page = document("FIRST.md").read_text()
+    blocks = re.findall(
+        r"^    (?:\$ )?cat >>? (\S+) <<'END'\n((?:    .*\n|\n)*?)    END$", page, re.M
+    )
+    files: dict[str, str] = {}
+    for name, text in blocks:
+        if name == "first.s" and name in files:
+            break
+        files[name] = files.get(name, "") + re.sub("^    ", "", text, flags=re.M)
+    for name, text in files.items():
+        (tmp_path / name).write_text(text)
+    image = subprocess.run(
+        [flexpret, "asm", "first.s"], cwd=tmp_path, capture_output=True, check=True
+    )
+    (tmp_path / "first.fpx").write_bytes(image.stdout)
+    (call,) = re.findall(r"^    (?:\$ )?tools/(fp_budget first.toml period.toml)$", page, re.M)
+    ran = subprocess.run(
+        [sys.executable, *(TOP / "tools" / call).as_posix().split()],
+        cwd=tmp_path,
+        env={**os.environ, "FLEXPRET": flexpret},
+        capture_output=True,
+        text=True,
+        check=False,
+    )
+    assert ran.returncode == 0 and ran.stdout.strip() in page

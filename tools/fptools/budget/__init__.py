@@ -1,0 +1,1 @@
+"""Bounds of sections against budgets: names, files, paths, results, and the comparison with runs."""

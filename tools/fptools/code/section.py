@@ -1,0 +1,251 @@
+"""A section or a function as `bound` and `calls` go through it: the words it reaches, its loops, and where it is left."""
+from __future__ import annotations
+
+from collections import defaultdict
+from dataclasses import dataclass, field, replace
+from enum import Enum
+from typing import Collection, Hashable, Mapping, Protocol
+
+from fptools import require
+from fptools.isa.words import RETURN, Flow, Word
+
+require("networkx")
+
+import networkx
+
+
+class Function(Protocol):
+    """The words of a function: from its first address up to below `end`."""
+
+    @property
+    def start(self) -> int:
+        ...
+
+    @property
+    def end(self) -> int:
+        ...
+
+
+class Exit(Enum):
+    """How an execution leaves a section."""
+
+    END = "reaches the end"
+    RETURN = "returns"
+    CALL = "a call leaves the section: a bound ends here"
+    ELSEWHERE = "leaves for another address: a bound ends here"
+    INDIRECT = "an indirect jump: it has no bound"
+    WAIT = "a timed wait: it has no bound"
+    TRAP = "traps: a bound ends here"
+    MISSING = "no code is here: a bound ends here"
+
+
+@dataclass(frozen=True)
+class WayOut:
+    """A word that leaves the section, how, and where to, if that is in the word."""
+
+    word: Word
+    exit: Exit
+    to: int | None
+
+
+@dataclass(frozen=True)
+class Loop:
+    """A loop by its head, and the words that go back to it."""
+
+    head: int
+    backs: tuple[int, ...]
+    # The words of the loop: those from which a back edge is reached without passing the head, and the head.
+    body: frozenset[int] = frozenset()
+    # The words of the loop with an edge out of it.
+    exits: frozenset[int] = frozenset()
+    # Whether each path from the first word of the section passes the head first.
+    is_natural: bool = True
+    # The last word of the loops inside, by address; 0 where none lies behind the last back edge.
+    inner_last: int = 0
+
+    @property
+    def last(self) -> int:
+        """The last word, by address. A loop inside may have a back edge behind those of the loop itself."""
+        return max(*self.backs, self.inner_last)
+
+    @property
+    def is_interval(self) -> bool:
+        """Whether it is only entered at its head, and no word of it is before the head."""
+        return self.is_natural and min(self.body, default=self.head) == self.head
+
+
+@dataclass
+class Section:
+    """The words from `start` up to below `end`, and what their first can reach among them."""
+
+    start: int
+    end: int
+    is_function: bool = False
+    reached: dict[int, Word] = field(default_factory=dict)
+    loops: list[Loop] = field(default_factory=list)
+    ways_out: list[WayOut] = field(default_factory=list)
+    callees: set[int] = field(default_factory=set)
+    graph: networkx.DiGraph = field(default_factory=networkx.DiGraph)
+
+    def holds(self, address: int) -> bool:
+        return self.start <= address < self.end
+
+    @property
+    def way_of_end(self) -> Exit:
+        """How it is left as meant: a function returns, a section reaches its end."""
+        return Exit.RETURN if self.is_function else Exit.END
+
+    @property
+    def ends(self) -> bool:
+        """Whether a path leads to an intended exit."""
+        return any(way.exit is self.way_of_end for way in self.ways_out)
+
+
+def walk(
+    words: Mapping[int, int], start: int, end: int, routines: Collection[int] = (), is_function: bool = False
+) -> Section:
+    """Goes through a section or a function. A call of one of the routines by x1, by their heads, comes back to the next
+    word; a `ret` is what leaves a function."""
+    section = Section(start, end, is_function)
+    section.graph.add_node(start)
+    ahead = [start]
+    while ahead:
+        pc = ahead.pop()
+        if pc in section.reached:
+            continue
+        word = section.reached[pc] = Word(pc, words.get(pc, 0))
+        for to in _steps(section, word, routines):
+            section.graph.add_edge(pc, to)
+            ahead.append(to)
+    section.loops = _loops(section)
+    section.ways_out.sort(key=lambda way: (way.word.pc, way.to or 0))
+    return section
+
+
+def walk_all(
+    words: Mapping[int, int],
+    start: int,
+    end: int,
+    functions: Collection[Function],
+    is_function: bool = False,
+) -> list[Section]:
+    """A section or a function, and the functions that it calls, and that these call, by their addresses. A function that
+    has words of the section is none of them: its call leaves the section."""
+    apart = {it.start: it for it in functions if it.end <= start or end <= it.start}
+    first = walk(words, start, end, apart, is_function)
+    called: dict[int, Section] = {}
+    ahead = list(first.callees)
+    while ahead:
+        head = ahead.pop()
+        if head not in called:
+            called[head] = walk(words, head, apart[head].end, apart, is_function=True)
+            ahead += called[head].callees
+    return [first, *(called[head] for head in sorted(called))]
+
+
+def _loops(section: Section) -> list[Loop]:
+    """The loops by their heads: targets of edges that lead backwards by address, or to a word that dominates theirs."""
+    graph = section.graph
+    dominators = Dominators(graph, section.start)
+    backs: dict[int, set[int]] = defaultdict(set)
+    natural: dict[int, set[int]] = defaultdict(set)
+    for word, to in graph.edges:
+        if to <= word:
+            backs[to].add(word)
+        if dominators.has(to, word):
+            natural[to].add(word)
+    leaves = {way.word.pc for way in section.ways_out}
+    loops = []
+    for head in sorted(backs | natural):
+        every = backs[head] | natural[head]
+        body = _body(graph, head, natural[head])
+        exits = {word for word in body if word in leaves or not set(graph[word]) <= body}
+        loops.append(
+            Loop(head, tuple(sorted(every)), frozenset(body), frozenset(exits), every == natural[head])
+        )
+    return _with_inner(loops)
+
+
+class Dominators:
+    """Which words each path from the first word to another passes. Nodes of a graph may be of any kind."""
+
+    def __init__(self, graph: networkx.DiGraph, start: Hashable) -> None:
+        tree = networkx.DiGraph()
+        tree.add_node(start)
+        for word, above in networkx.immediate_dominators(graph, start).items():
+            if word != start:
+                tree.add_edge(above, word)
+        self.begins: dict[Hashable, int] = {}
+        self.finishes: dict[Hashable, int] = {}
+        for at, (_, word, kind) in enumerate(networkx.dfs_labeled_edges(tree, start)):
+            if kind == "forward":
+                self.begins[word] = at
+            elif kind == "reverse":
+                self.finishes[word] = at
+
+    def has(self, above: Hashable, below: Hashable) -> bool:
+        """Whether each path to `below` passes `above`, which it does to itself."""
+        return self.begins[above] <= self.begins[below] and self.finishes[below] <= self.finishes[above]
+
+
+def _body(graph: networkx.DiGraph, head: int, backs: Collection[int]) -> set[int]:
+    """The words from which a back edge is reached without passing the head, and the head."""
+    body, ahead = {head}, list(backs)
+    while ahead:
+        word = ahead.pop()
+        if word not in body:
+            body.add(word)
+            ahead += graph.predecessors(word)
+    return body
+
+
+def _with_inner(loops: list[Loop]) -> list[Loop]:
+    """The loops, each with the last word of those that begin inside of it."""
+    lasts = {loop.head: loop.last for loop in loops}
+    changed = True
+    while changed:
+        changed = False
+        for outer in lasts:
+            for inner in lasts:
+                if outer < inner <= lasts[outer] < lasts[inner]:
+                    lasts[outer], changed = lasts[inner], True
+    return [replace(loop, inner_last=lasts[loop.head]) for loop in loops]
+
+
+def _steps(section: Section, word: Word, routines: Collection[int]) -> list[int]:
+    """Where a word goes on inside the section; what leads out of it is noted as a way out."""
+    ends = _ends(section, word, routines)
+    if word.flow in (Flow.INDIRECT, Flow.WAIT, Flow.TRAP):
+        section.ways_out.append(WayOut(word, _stop(section, word), None))
+    for to in ends:
+        if not section.holds(to):
+            section.ways_out.append(WayOut(word, _leaving(section, word, to), to))
+    return [to for to in ends if section.holds(to)]
+
+
+def _ends(section: Section, word: Word, routines: Collection[int]) -> list[int]:
+    """The addresses at which a thread may go on after a word, as far as they are in it."""
+    flow, target = word.flow, word.target
+    if flow in (Flow.INDIRECT, Flow.TRAP):
+        return []
+    if target is None:
+        return [word.next]
+    if word.comes_back and target in routines:
+        section.callees.add(target)
+        return [word.next]
+    return [word.next, target] if flow is Flow.BRANCH else [target]
+
+
+def _stop(section: Section, word: Word) -> Exit:
+    """Why there is no number past a word."""
+    if not word.is_code:
+        return Exit.MISSING
+    if section.is_function and word.bits == RETURN:
+        return Exit.RETURN
+    return {Flow.INDIRECT: Exit.INDIRECT, Flow.WAIT: Exit.WAIT}.get(word.flow, Exit.TRAP)
+
+
+def _leaving(section: Section, word: Word, to: int) -> Exit:
+    if word.flow is Flow.CALL and to == word.target:
+        return Exit.CALL
+    return Exit.END if to == section.end and not section.is_function else Exit.ELSEWHERE

@@ -1,0 +1,231 @@
+"""The words that a thread may issue from its entry on, with each call that leads to a wait put in
+place.
+
+A place is a word together with the calls by which it is reached. Calls of functions without a
+wait are passed over: they come back to the next word. Trap handlers are left out."""
+from __future__ import annotations
+
+from collections import defaultdict
+from dataclasses import dataclass, field
+from functools import cached_property
+from typing import NamedTuple
+
+from fptools import require
+from fptools.files.elf import Function, Program
+from fptools.code.returns import wrong_return
+from fptools.code.section import Dominators, Exit, Section, walk
+from fptools.limits import LARGE
+from fptools.code.thread import Code, reach
+from fptools.code.values import clobbered_by
+from fptools.isa.words import FUNCT3_WAITS, OPCODE_TIMING, RETURN, Flow, Word
+
+require("networkx")
+
+import networkx
+
+FUNCT3_DELAY, FUNCT3_WAIT = FUNCT3_WAITS
+MOST_CALLS = 16
+MOST_PLACES = 20_000
+
+
+class NotUnfolded(Exception):
+    """Why the words of a thread aren't known: an address, and what is there."""
+
+    def __init__(self, pc: int, text: str) -> None:
+        super().__init__(text)
+        self.pc, self.text = pc, text
+
+
+class Place(NamedTuple):
+    """A word, and the addresses of the calls that lead to it, the outermost first."""
+
+    sites: tuple[int, ...]
+    pc: int
+
+    @property
+    def key(self) -> tuple[int, ...]:
+        """Sorts places as if each called function were in place of its call."""
+        return (*self.sites, self.pc)
+
+
+@dataclass(frozen=True)
+class Step:
+    """A word at a place: the next place, and the one that it jumps to, calls or returns to."""
+
+    word: Word
+    onward: Place | None = None
+    target: Place | None = None
+
+    @property
+    def ends(self) -> list[Place]:
+        return [it for it in dict.fromkeys((self.onward, self.target)) if it is not None]
+
+    @property
+    def passes_over(self) -> bool:
+        """Whether it is a call of a function that has no wait."""
+        return self.word.flow is Flow.CALL and self.target is None
+
+
+@dataclass(frozen=True)
+class Ring:
+    """A natural loop of places: its head, through which alone it is entered, and all its places."""
+
+    head: Place
+    body: frozenset[Place]
+
+
+def is_wait(word: Word) -> bool:
+    """Whether a word is a WU."""
+    is_timing = word.is_code and word.opcode == OPCODE_TIMING
+    return is_timing and word.funct3 == FUNCT3_WAIT
+
+
+@dataclass
+class Unfolded:
+    """The places that a thread reaches from its entry on. Raises NotUnfolded."""
+
+    code: Code
+    program: Program
+    entry: int
+    steps: dict[Place, Step] = field(default_factory=dict)
+    _leads: dict[int, bool] = field(default_factory=dict)
+    _checked: set[int] = field(default_factory=set)
+
+    def __post_init__(self) -> None:
+        ahead = [self.first]
+        while ahead:
+            place = ahead.pop()
+            if place in self.steps:
+                continue
+            if len(self.steps) >= MOST_PLACES:
+                raise NotUnfolded(place.pc, "the calls that lead to a wait are too many to look at")
+            step = self.steps[place] = self._step(place)
+            ahead += step.ends
+
+    @property
+    def first(self) -> Place:
+        return Place((), self.entry)
+
+    @property
+    def passed_over(self) -> set[int]:
+        """The functions without a wait that are called."""
+        found = (it.word.target for it in self.steps.values() if it.passes_over)
+        return {it for it in found if it is not None}
+
+    @property
+    def waits(self) -> list[Place]:
+        """The places with a WU, in order."""
+        found = (place for place, step in self.steps.items() if is_wait(step.word))
+        return sorted(found, key=lambda it: it.key)
+
+    def _step(self, place: Place) -> Step:
+        sites = place.sites
+        word = self.code.word(place.pc) if place.pc < LARGE else Word(place.pc, 0)
+        flow, onward = word.flow, Place(sites, word.next)
+        if flow is Flow.TRAP:
+            return Step(word)
+        if flow is Flow.INDIRECT:
+            return self._return(place, word)
+        if flow is Flow.CALL and word.target is not None:
+            if not word.comes_back:
+                raise NotUnfolded(place.pc, "a call that doesn't keep its return address in x1")
+            if not self._leads_to_wait(word.target):
+                return Step(word, onward)
+            return Step(word, None, self._called(place, word.target))
+        target = None if word.target is None else Place(sites, word.target)
+        return Step(word, None if flow is Flow.JUMP else onward, target)
+
+    def _return(self, place: Place, word: Word) -> Step:
+        """A `ret` goes back behind the call that led here. Other jumps by a register are refused."""
+        if word.bits != RETURN or not place.sites:
+            raise NotUnfolded(
+                place.pc, "a jump to an address that isn't known: it may lead to a wait"
+            )
+        site = place.sites[-1]
+        self._look_at_returns(self.code.word(site).target or 0)
+        return Step(word, None, Place(place.sites[:-1], site + 4))
+
+    def _called(self, place: Place, target: int) -> Place:
+        outer = [self.code.word(it).target for it in place.sites]
+        if target in outer or len(outer) >= MOST_CALLS:
+            raise NotUnfolded(place.pc, "recursion on the path to a wait")
+        return Place((*place.sites, place.pc), target)
+
+    def _leads_to_wait(self, target: int) -> bool:
+        """Whether a called function, or one that it calls, has a WU or a DU."""
+        if target not in self._leads:
+            words = reach(self.code, [target]).words.values()
+            self._leads[target] = any(it.flow is Flow.WAIT for it in words)
+        return self._leads[target]
+
+    def _look_at_returns(self, start: int) -> None:
+        """Each `ret` of a function with a wait goes back to its call."""
+        if start in self._checked:
+            return
+        part = self.part_of(start)
+        for way in part.ways_out:
+            if way.exit not in (Exit.RETURN, Exit.WAIT):
+                raise NotUnfolded(
+                    way.word.pc, f"a function with a wait is left here: {way.exit.value}"
+                )
+        wrong = wrong_return(part, lambda at: clobbered_by(self.code.words, at), self.code.words)
+        if wrong is not None:
+            text = "it isn't certain that this goes back to the call: x1 and x2 change"
+            raise NotUnfolded(wrong.pc, text)
+        self._checked.add(start)
+
+    def function_from(self, start: int) -> Function:
+        """The function that begins at an address."""
+        found = self.program.function_at(start)
+        if found is None or found.start != start:
+            text = "it is called and is no function with a size: in assembler, .type and .size"
+            raise NotUnfolded(start, text)
+        return found
+
+    def part_of(self, start: int) -> Section:
+        """A called function, where the calls of others come back."""
+        function = self.function_from(start)
+        heads = {it.start for it in self.program.functions} - {start}
+        return walk(self.code.words, start, function.end, heads, is_function=True)
+
+    @cached_property
+    def graph(self) -> networkx.DiGraph:
+        graph = networkx.DiGraph()
+        graph.add_node(self.first)
+        for place, step in self.steps.items():
+            graph.add_edges_from((place, to) for to in step.ends)
+        return graph
+
+    @cached_property
+    def rings(self) -> list[Ring]:
+        """The natural loops, the larger ones first."""
+        dominators = Dominators(self.graph, self.first)
+        backs: dict[Place, list[Place]] = defaultdict(list)
+        for place, to in self.graph.edges:
+            if dominators.has(to, place):
+                backs[to].append(place)
+        found = (Ring(head, frozenset(self._body(head, lasts))) for head, lasts in backs.items())
+        return sorted(found, key=lambda it: (-len(it.body), it.head.key))
+
+    def _body(self, head: Place, lasts: list[Place]) -> set[Place]:
+        body, ahead = {head}, list(lasts)
+        while ahead:
+            place = ahead.pop()
+            if place not in body:
+                body.add(place)
+                ahead += self.graph.predecessors(place)
+        return body
+
+    @cached_property
+    def tangled(self) -> list[Place]:
+        """The waits that a cycle leads back to which isn't inside of a natural loop: one that is
+        entered at several words."""
+        bodies = {ring.body for ring in self.rings}
+        parts = networkx.strongly_connected_components(self.graph)
+        cycles = [frozenset(it) for it in parts if len(it) > 1]
+        tangled = set().union(*(it for it in cycles if it not in bodies))
+        return [it for it in self.waits if it in tangled]
+
+    def around(self, place: Place) -> list[Ring]:
+        """The loops that a place lies in, the outermost first."""
+        return [it for it in self.rings if place in it.body]

@@ -1,0 +1,84 @@
+"""Writes addresses as numbers, a line for each.
+
+    fp_addresses [--elf FILE [--setup SETUP] | --map FILE] ADDRESS..
+
+An address is a number, NAME or NAME+NUMBER, with names of an executable, or of a map that fp_asm wrote.
+`flexpret bound`, `calls` with --elf or --map call this for --from and --to. With --routines FILE, the
+functions of the executable that the section from the first to the second address reaches by calls are
+written there, as the command `calls` reads them. With --setup the names count only if the setup's image
+was made of the executable. A source that is newer than its map is reported. Exit status: 0; 2 where an
+address isn't known, the image is of another executable, or a file can't be read."""
+from __future__ import annotations
+
+import argparse
+import sys
+from pathlib import Path
+
+from fptools.files.elf import Program, ProgramError
+from fptools.files.image import ImageError, read_image
+from fptools.files.labels import named_by
+from fptools.files.setup import read_setup
+from fptools.files.written import write_whole
+
+NAME = "fp_addresses"
+
+
+def write_routines(path: Path, program: Program, start: int, end: int) -> None:
+    """Writes the list of the functions that a section reaches by calls. Only this needs networkx."""
+    from fptools.budget.bounds import called_functions
+
+    functions = called_functions(program.words, program.functions, start, end)
+    text = "".join(f"{it.start:08x} {it.end - 4:08x}\n" for it in functions)
+    write_whole(path, text.encode("ascii"))
+
+
+def look_at_image(program: Program, setup: Path) -> None:
+    """The image of a setup is made of the executable. If it can't be read, the program reports it."""
+    try:
+        image = read_image(read_setup(setup).image)
+    except (OSError, ValueError, LookupError, TypeError, ImageError):
+        return
+    other = program.other_word(image)
+    if other:
+        raise ProgramError(f"the setup's image isn't made of {program.path}: other words at {other}")
+
+
+def look_at_map(program: Program) -> None:
+    """Says that the source of a map is newer."""
+    source = next((line.file for line in program.all_lines), None)
+    path = program.path
+    if path and source and source.is_file() and source.stat().st_mtime_ns > path.stat().st_mtime_ns:
+        print(f"{NAME}: {source.name} is newer than {path.name}: its labels may be elsewhere", file=sys.stderr)
+
+
+def main() -> int:
+    parser = argparse.ArgumentParser(
+        prog=NAME, description=__doc__, formatter_class=argparse.RawDescriptionHelpFormatter
+    )
+    parser.add_argument(
+        "address", nargs="+", metavar="ADDRESS", help="a number, NAME or NAME+NUMBER"
+    )
+    parser.add_argument("--elf", type=Path, metavar="FILE", help="the executable")
+    parser.add_argument("--map", type=Path, metavar="FILE", help="a map that fp_asm wrote")
+    parser.add_argument("--setup", type=Path, metavar="SETUP", help="the setup whose image has the names")
+    parser.add_argument(
+        "--routines", type=Path, metavar="FILE", help="write the functions that the section reaches"
+    )
+    asked = parser.parse_args()
+    try:
+        program = named_by(asked.elf, asked.map)
+        if asked.elf and asked.setup:
+            look_at_image(program, asked.setup)
+        if asked.map:
+            look_at_map(program)
+        addresses = [program.address(text) for text in asked.address]
+        if asked.routines:
+            if len(addresses) != 2 or not asked.elf:
+                raise ProgramError("--routines needs --elf, and the two addresses of a section")
+            write_routines(asked.routines, program, *addresses)
+    except (OSError, ProgramError) as fault:
+        print(f"{NAME}: {fault}", file=sys.stderr)
+        return 2
+    for address in addresses:
+        print(f"{address:#010x}")
+    return 0

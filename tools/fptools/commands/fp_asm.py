@@ -1,0 +1,77 @@
+"""Writes a listing and a map of a source of the assembler, whose image is there.
+
+    fp_asm SOURCE IMAGE [--listing FILE] [--map FILE]
+
+A listing has for each line of the source its number, address, word and text, and the labels behind them. A
+map has a line for each line of the source that has labels or places words: the address, the number of the
+line, and the labels. fp_visits, fp_disasm, fp_addresses and fp_refusal read it. `-` is standard output.
+
+`flexpret asm SOURCE -o IMAGE --listing FILE --map FILE` calls this once the program has written the
+image. Both files are written whole or not at all. Exit status: 0; 2 where a file can't be read or
+written, the source has a fault, or the image has other words than the source."""
+from __future__ import annotations
+
+import argparse
+import os
+import sys
+import tempfile
+from pathlib import Path
+from typing import Iterable
+
+from fptools.asm.places import SourceFault
+from fptools.asm.source import listing, map_lines, read_source
+from fptools.files.image import ImageError, read_image
+
+NAME = "fp_asm"
+
+
+def write(path: Path, lines: Iterable[str]) -> None:
+    """Writes a file whole, or leaves what was there."""
+    text = "".join(f"{line}\n" for line in lines)
+    if str(path) == "-":
+        sys.stdout.write(text)
+        sys.stdout.flush()
+        return
+    with tempfile.NamedTemporaryFile(
+        "w", encoding="utf-8", dir=path.parent, prefix=f".{path.name}.", delete=False
+    ) as new:
+        try:
+            new.write(text)
+            new.flush()
+            os.chmod(new.name, 0o666 & ~_umask())
+            os.replace(new.name, path)
+        except BaseException:
+            os.unlink(new.name)
+            raise
+
+
+def _umask() -> int:
+    mask = os.umask(0)
+    os.umask(mask)
+    return mask
+
+
+def main() -> int:
+    parser = argparse.ArgumentParser(
+        prog=NAME, description=__doc__, formatter_class=argparse.RawDescriptionHelpFormatter
+    )
+    parser.add_argument("source", type=Path, help="the assembly source")
+    parser.add_argument("image", type=Path, help="what the program made of it")
+    parser.add_argument("--listing", type=Path, metavar="FILE", help="where the listing is written")
+    parser.add_argument("--map", type=Path, metavar="FILE", help="where the map of addresses is written")
+    asked = parser.parse_args()
+    try:
+        source = read_source(asked.source)
+        if source.words != read_image(asked.image):
+            raise ImageError(f"{asked.image} has other words than {asked.source}: make it again")
+        if asked.listing:
+            write(asked.listing, listing(source))
+        if asked.map:
+            write(asked.map, map_lines(source, asked.map.parent))
+    except SourceFault as fault:
+        print(f"{NAME}: {asked.source}:{fault.line}: {fault.code.name}", file=sys.stderr)
+        return 2
+    except (OSError, ImageError) as fault:
+        print(f"{NAME}: {fault}", file=sys.stderr)
+        return 2
+    return 0

@@ -1,0 +1,46 @@
+"""Writes an image as a source. The assembler makes the same image of it.
+
+    fp_disasm IMAGE [--elf FILE | --map FILE]
+
+Each line has the instruction, and behind `#` its address and word. A word that is no instruction is a `.word`,
+and so is all data. Names come from an executable or from a map that fp_asm wrote; another target of a
+jump is called L_ and its address. An image past 16,384 bytes of a scratchpad is shown too, but `asm`
+refuses its source. `flexpret disasm IMAGE` calls this. Exit status: 0; 2 where a file can't be read or
+is no image, or the image isn't made of the executable."""
+from __future__ import annotations
+
+import argparse
+import os
+import sys
+from pathlib import Path
+
+from fptools.asm.source import disassembled
+from fptools.files.elf import ProgramError
+from fptools.files.image import ImageError, read_image
+from fptools.files.labels import named_by, names_at
+
+NAME = "fp_disasm"
+
+
+def main() -> int:
+    parser = argparse.ArgumentParser(
+        prog=NAME, description=__doc__, formatter_class=argparse.RawDescriptionHelpFormatter
+    )
+    parser.add_argument("image", type=Path, help="the image that was disassembled")
+    parser.add_argument("--elf", type=Path, metavar="FILE", help="the executable that the image was made of")
+    parser.add_argument("--map", type=Path, metavar="FILE", help="the map of the source that it was made of")
+    asked = parser.parse_args()
+    try:
+        words = read_image(asked.image)
+        program = named_by(asked.elf, asked.map)
+        if asked.elf and (other := program.other_word(words)):
+            raise ProgramError(f"{asked.image} isn't made of {asked.elf}: other words at {other}")
+        for line in disassembled(words, names_at(program)):
+            print(line)
+        sys.stdout.flush()
+    except BrokenPipeError:
+        os.dup2(os.open(os.devnull, os.O_WRONLY), sys.stdout.fileno())
+    except (OSError, ImageError, ProgramError) as fault:
+        print(f"{NAME}: {fault}", file=sys.stderr)
+        return 2
+    return 0

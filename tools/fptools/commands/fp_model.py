@@ -1,0 +1,23 @@
+"""The model in Python in place of the program, with its arguments, output and status. It needs Python alone.
+
+    fp_model run examples/drive.toml --thread 0 --cycles 77
+    FLEXPRET=tools/fp_model tools/fp_budget ..
+
+Nothing of its answers is proved, as a line on standard error says, unless FLEXPRET_QUIET is set. It takes
+a thousand times as long as the program."""
+from __future__ import annotations
+
+import os
+import sys
+
+from fptools import require
+from model.__main__ import main as answer
+
+SAYS = "flexpret: nothing of this answer is proved: the model in Python gives it"
+
+
+def main() -> int:
+    require()
+    if not os.environ.get("FLEXPRET_QUIET"):
+        print(SAYS, file=sys.stderr, flush=True)
+    return answer()

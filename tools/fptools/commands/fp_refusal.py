@@ -1,0 +1,47 @@
+"""Explains a refusal line of the program: where it is, and what to do.
+
+    fp_refusal [--setup SETUP] [--file FILE] [--thread I] [--elf FILE | --map FILE] [--src DIR] [LINE]
+
+LINE is `refused source 1 3 UnknownName` and the like; left out, standard input has it. FILE is the
+source, the image, the executable or the list of routines that was refused. Addresses get their symbols
+and source lines by an executable, or by a map that fp_asm wrote. The script `flexpret` calls this where
+the program ends with status 3 to 6 or 10, and shows its output on standard error. Only --elf needs a
+package, pyelftools. Exit status: 0; 2 if the line is no refusal, a file that it refers to can't be read,
+or the package is missing."""
+from __future__ import annotations
+
+import argparse
+import os
+import sys
+from pathlib import Path
+
+from fptools.files.labels import named_by
+from fptools.program.refusals import FAULTS, Context, explain
+
+NAME = "fp_refusal"
+
+
+def main() -> int:
+    parser = argparse.ArgumentParser(
+        prog=NAME, description=__doc__, formatter_class=argparse.RawDescriptionHelpFormatter
+    )
+    add = parser.add_argument
+    add("line", nargs="*", help="the refusal, as one word or as many")
+    add("--setup", type=Path, help="the setup of the command")
+    add("--file", type=Path, help="the source, image, executable or list of routines")
+    add("--thread", type=int, choices=range(8), metavar="I", help="the thread of the command")
+    add("--elf", type=Path, metavar="FILE", help="the executable that the image was made of")
+    add("--map", type=Path, metavar="FILE", help="the map of the source that it was made of")
+    add("--src", type=Path, metavar="DIR", help="where the sources are, if not where they were compiled")
+    asked = parser.parse_args()
+    try:
+        context = Context(asked.setup, asked.file, named_by(asked.elf, asked.map), asked.src, asked.thread)
+        for line in explain(" ".join(asked.line) or sys.stdin.readline(), context):
+            print(line)
+        sys.stdout.flush()
+    except BrokenPipeError:
+        os.dup2(os.open(os.devnull, os.O_WRONLY), sys.stdout.fileno())
+    except FAULTS as fault:
+        print(f"{NAME}: {fault}", file=sys.stderr)
+        return 2
+    return 0

@@ -1,0 +1,48 @@
+"""A tool whose Python lacks a package is run by Debian's Python."""
+from __future__ import annotations
+
+import os
+import subprocess
+from pathlib import Path
+
+import pytest
+from fptools.testing.common import TOOLS, TOP
+from fptools import DEBIAN
+
+ELF = TOP / "examples/c/pid.elf"
+
+
+@pytest.fixture
+def bare(tmp_path: Path) -> Path:
+    """A Python without packages."""
+    made = subprocess.run([DEBIAN, "-m", "venv", "--without-pip", tmp_path / "bare"], capture_output=True, check=False)
+    has = subprocess.run([DEBIAN, "-c", "import elftools, jsonschema, networkx"], capture_output=True, check=False)
+    if made.returncode or has.returncode:
+        pytest.skip(f"{DEBIAN} has no module venv, or lacks the tools' packages")
+    return tmp_path / "bare/bin/python3"
+
+
+def called(*words: object, **more: str) -> subprocess.CompletedProcess[str]:
+    environment = {**os.environ, **more}
+    return subprocess.run(list(map(str, words)), capture_output=True, text=True, env=environment, check=False)
+
+
+def test_debians_python_runs_a_tool_that_lacks_a_package(bare: Path) -> None:
+    ran = called(bare, TOOLS / "fp_addresses", "--elf", ELF, "main0", "main1")
+    assert (ran.returncode, ran.stderr) == (0, "") and ran.stdout.count("0x") == 2
+
+
+def test_its_options_stay(bare: Path) -> None:
+    """Without the folders of packages Debian's Python lacks them too."""
+    ran = called(bare, "-S", TOOLS / "fp_addresses", "--elf", ELF, "main0", "main1")
+    assert ran.returncode == 2 and f"fp_addresses: {bare} (Python" in ran.stderr and "lacks pyelftools" in ran.stderr
+
+
+def test_it_is_tried_once(bare: Path) -> None:
+    ran = called(bare, TOOLS / "fp_addresses", "--elf", ELF, "main0", "main1", FLEXPRET_TRIED_DEBIAN="1")
+    assert ran.returncode == 2 and "lacks pyelftools" in ran.stderr
+
+
+def test_what_is_no_tool_is_not_run_again(bare: Path) -> None:
+    ran = called(bare, "-c", "import fptools.files.pyelf", PYTHONPATH=str(TOOLS))
+    assert ran.returncode == 2 and "lacks pyelftools" in ran.stderr

@@ -1,0 +1,1 @@
+"""Records of a core's signals, and their comparison with the program."""

@@ -1,0 +1,1 @@
+"""Plants in other processes, and inputs from files."""

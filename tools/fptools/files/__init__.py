@@ -1,0 +1,1 @@
+"""The files that tools read: setups, images, executables, maps, sources, traces, dumps."""

@@ -1,0 +1,58 @@
+"""Names of addresses: the labels of a map that fp_asm wrote, or the symbols of an executable."""
+from __future__ import annotations
+
+import re
+from functools import cached_property
+from pathlib import Path
+
+from fptools.files.elf import Line, Program, ProgramError, Row
+
+HEADER = re.compile(r"# map of (?P<source>.+): address, line, labels")
+ROW = re.compile(r"(?P<at>[0-9a-f]{8}) (?P<line>\d+)(?P<labels>(?: [A-Za-z_.][\w.]*)*)")
+
+
+class Mapped(Program):
+    """The labels and source lines of a map. It has no words and no functions."""
+
+    def __init__(self, path: Path) -> None:
+        super().__init__()
+        self.path = path
+        self._rows: list[Row] = []
+        header, *rows = path.read_text(encoding="utf-8", errors="replace").splitlines() or [""]
+        named = HEADER.fullmatch(header)
+        if named is None:
+            raise ProgramError(f"{path} is no map: fp_asm writes one by --map")
+        source = path.parent / named["source"]
+        for number, row in enumerate(rows, 2):
+            parts = ROW.fullmatch(row)
+            if parts is None:
+                raise ProgramError(f"{path}:{number}: no address, line and labels: {row!r}")
+            at = int(parts["at"], 16)
+            self._rows.append((at, Line(source, int(parts["line"]))))
+            self.symbols += [(at, name) for name in parts["labels"].split()]
+        self.symbols.sort()
+
+    @property
+    def has_functions(self) -> bool:
+        return False
+
+    @cached_property
+    def _lines(self) -> list[Row]:
+        return sorted(self._rows, key=lambda row: row[0])
+
+
+def named_by(elf: Path | None, labels: Path | None) -> Program:
+    """The names of an executable or of a map; none of either without both."""
+    if elf and labels:
+        raise ProgramError("--elf and --map: names are of one of them")
+    program = Mapped(labels) if labels else Program(elf)
+    program.names_need = "an executable or a map: give --elf FILE or --map FILE"
+    return program
+
+
+def names_at(program: Program) -> dict[int, str]:
+    """A name for each address that has one: the first by the alphabet."""
+    names: dict[int, str] = {}
+    for at, name in program.symbols:
+        names.setdefault(at, name)
+    return names

@@ -1,0 +1,1 @@
+"""How often loops go back: by marks, by counts, by tables."""

@@ -1,0 +1,1 @@
+"""A run in gdb: the machine at a position, its stops, and gdb's packets."""

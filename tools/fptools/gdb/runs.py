@@ -1,0 +1,210 @@
+"""Calls of the program for a debugger: traces that are read as far as they are needed, and dumps.
+
+A trace comes from a call of `run` that waits at its full pipe. So the next events cost only their
+own cycles. A call ends with this process, however that ends."""
+from __future__ import annotations
+
+import os
+import signal
+import subprocess
+from pathlib import Path
+from typing import Protocol, Sequence
+
+from fptools.files.dump import Dump, NoDump, read_dump
+from fptools.program.calls import BESIDE, Flexpret
+from fptools.files.trace_blocks import CYCLE
+
+FIRST_CYCLES, LONGER = (
+    1 << 18,
+    16,
+)  # the cycles of a thread's first call, and how much longer the next is
+RETIRES = 4  # an issue of cycle c is in the trace of c + 5 cycles
+READ_BYTES = 1 << 16
+LINE_BYTES = 64  # a line of a trace is shorter
+BUILT = Path("crates/flexpret_cli/out/flexpret_cli")
+
+
+class Waiter(Protocol):
+    """The party that may break off a long call: both methods raise then."""
+
+    def wait_for(self, descriptor: int) -> None:
+        """Returns when a descriptor can be read."""
+
+    def look(self) -> None:
+        """Returns at once."""
+
+
+class RunFailed(Exception):
+    """The program refused, or couldn't answer."""
+
+
+class Call:
+    """A call of the program whose standard output is read."""
+
+    def __init__(self, words: Sequence[str], waiter: Waiter) -> None:
+        self._waiter = waiter
+        self._words = words
+        # Also where this process is killed, so is the call; its own group has what a script calls.
+        self._child = subprocess.Popen(
+            ["setpriv", "--pdeathsig", "KILL", "--", *words],
+            stdin=subprocess.DEVNULL,
+            stdout=subprocess.PIPE,
+            start_new_session=True,
+        )
+
+    def read(self) -> bytes:
+        """The next bytes; none at the end. A call that failed is a `RunFailed`."""
+        assert self._child.stdout is not None
+        descriptor = self._child.stdout.fileno()
+        self._waiter.wait_for(descriptor)
+        data = os.read(descriptor, READ_BYTES)
+        if not data and self._child.wait() != 0:
+            raise RunFailed(f"{' '.join(self._words[1:])}: status {self._child.returncode}")
+        return data
+
+    def whole(self) -> bytes:
+        """All that is left."""
+        return b"".join(iter(self.read, b""))
+
+    def close(self) -> None:
+        assert self._child.stdout is not None
+        if self._child.poll() is None:
+            os.killpg(self._child.pid, signal.SIGKILL)
+            self._child.wait()
+        self._child.stdout.close()
+
+
+class Runs:
+    """The calls for a setup, for runs of at most so many cycles."""
+
+    def __init__(self, flexpret: Flexpret, setup: Path, most: int, waiter: Waiter) -> None:
+        self.flexpret, self.setup, self.most, self.waiter = flexpret, setup, most, waiter
+        self._files: dict[Path, tuple[int, int, int]] = {}
+
+    def start(self, *files: Path) -> None:
+        """Has the program built, if it must be. A refusal is a `RunFailed` with its words.
+        The files have to stay as they are, since all calls are of one run."""
+        self._files = {path: _mark(path) for path in files}
+        answer = self.flexpret.ask("dump", str(self.setup), "--cycles", "0")
+        if answer.status != 0:
+            raise RunFailed(f"{self.setup}: {answer.reason or f'status {answer.status}'}")
+        built = BESIDE.parent / BUILT
+        if self.flexpret.path == str(BESIDE) and os.access(built, os.X_OK):
+            # The script has just made sure that it is of these sources.
+            self.flexpret = Flexpret(str(built))
+
+    def trace(self, thread: int, cycles: int) -> Call:
+        return self._call("run", "--thread", str(thread), "--cycles", str(cycles))
+
+    def dump(self, cycles: int) -> Dump:
+        call = self._call("dump", "--cycles", str(cycles))
+        try:
+            return read_dump(call.whole().decode("ascii"))
+        except NoDump as fault:
+            raise RunFailed(f"dump --cycles {cycles}: {fault}") from fault
+        finally:
+            call.close()
+
+    def _call(self, command: str, *options: str) -> Call:
+        for path, mark in self._files.items():
+            if _mark(path) != mark:
+                raise RunFailed(f"{path} has changed since the session began: connect again")
+        return Call([self.flexpret.path, command, str(self.setup), *options], self.waiter)
+
+
+def _mark(path: Path) -> tuple[int, int, int]:
+    """The inode, size and time of a file, which change with it; zeros if there is none."""
+    try:
+        found = path.stat()
+    except OSError:
+        return 0, 0, 0
+    return found.st_ino, found.st_size, found.st_mtime_ns
+
+
+def last_cycle(text: bytes) -> int:
+    """The cycle of the last whole line of a trace; -1 where there is none."""
+    line = last_line(text[: text.rfind(b"\n") + 1])
+    return int(line[CYCLE]) if line else -1
+
+
+def offset_of(text: bytes, cycle: int) -> int:
+    """Where the first line of a cycle or a later one begins in whole lines."""
+    low, high = 0, len(text)
+    while low < high:
+        middle = (low + high) // 2
+        start = max(text.rfind(b"\n", low, middle) + 1, low)
+        if int(text[start : start + CYCLE.stop]) < cycle:
+            low = text.index(b"\n", start) + 1
+        else:
+            high = start
+    return low
+
+
+def last_line(text: bytes) -> bytes:
+    """The last of whole lines, without its line feed; empty where there is none."""
+    return text[text.rfind(b"\n", 0, max(len(text) - 1, 0)) + 1 : -1]
+
+
+class Stream:
+    """The trace of a thread, from one of its bytes on."""
+
+    def __init__(
+        self, runs: Runs, thread: int, offset: int = 0, cycles: int = FIRST_CYCLES
+    ) -> None:
+        self._runs, self._thread = runs, thread
+        self.offset = offset  # how many bytes of the trace were passed or taken
+        self.before = b""  # the last line of them
+        self._cycles = min(cycles, runs.most)
+        self._rest = b""
+        self._call: Call | None = None
+        self._is_ended = False
+
+    def fill(self, cycle: int) -> None:
+        """Reads on until all lines before a cycle are here. It may be broken off and repeated."""
+        while not self._has(cycle):
+            self._read_on()
+
+    def take(self, cycle: int) -> bytes:
+        """The lines before a cycle, up to which the stream is filled, that weren't taken yet."""
+        whole = self._rest[: self._rest.rfind(b"\n") + 1]
+        taken = whole[: offset_of(whole, cycle)]
+        self._rest = self._rest[len(taken) :]
+        self.offset += len(taken)
+        self.before = last_line(taken) or self.before
+        return taken
+
+    def close(self) -> None:
+        if self._call is not None:
+            self._call.close()
+        self._call = None
+
+    def _has(self, cycle: int) -> bool:
+        """Whether all lines up to a cycle were read."""
+        is_complete = self._is_ended and cycle <= self._cycles - RETIRES
+        return is_complete or last_cycle(self._rest) >= cycle
+
+    def _read_on(self) -> None:
+        if self._is_ended:
+            self.close()
+            self._cycles = min(self._cycles * LONGER, self._runs.most)
+        if self._call is None:
+            is_first = not self._rest
+            self._call = self._runs.trace(self._thread, self._cycles)
+            passed = self._pass(self._call, self.offset + len(self._rest))
+            self.before = self.before or (last_line(passed) if is_first else b"")
+        data = self._call.read()
+        self._is_ended = not data
+        self._rest += data
+
+    def _pass(self, call: Call, size: int) -> bytes:
+        """Passes over the bytes of a call that were read from an earlier one. Returns their end."""
+        tail = b""
+        while size:
+            data = call.read()
+            if not data:
+                raise RunFailed(f"the run of T{self._thread} is shorter than before")
+            passed = data[:size]
+            tail = (tail + passed)[-2 * LINE_BYTES :]
+            self._rest += data[size:]
+            size -= len(passed)
+        return tail

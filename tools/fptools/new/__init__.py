@@ -1,0 +1,1 @@
+"""A new program from a name."""

@@ -1,0 +1,1 @@
+"""The period of a loop that waits: its moments, its bounds and its runs."""

@@ -1,0 +1,1 @@
+"""Calls of the program, its answers, and what its refusals mean."""

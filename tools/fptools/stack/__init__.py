@@ -1,0 +1,1 @@
+"""How deep the stack of each thread gets, and its room."""

@@ -1,0 +1,1 @@
+"""What tests and the fuzzers of dev share: fixtures, compiled programs, and independent checks."""
