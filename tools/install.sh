@@ -40,7 +40,7 @@ put_tools() {
     done
     while read -r file; do
         install -D -m 644 "$tools/$file" "$home/tools/$file"
-    done < <(cd "$tools" && find fptools \( -name tests -o -name testing -o -name __pycache__ \) -prune -o -type f -print)
+    done < <(cd "$tools" && find fptools \( -name tests -o -name testing -o -name __pycache__ -o -name evidence.toml \) -prune -o -type f -print)
     # The model, for --model.
     for file in "$top"/model/*.py; do
         install -D -m 644 "$file" "$home/tools/model/${file##*/}"

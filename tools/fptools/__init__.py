@@ -42,19 +42,20 @@ def has(*modules: str) -> bool:
 
 def require(*modules: str) -> None:
     """If a module isn't installed, lets Debian's Python run the tool. If that one lacks it too, ends the call with one line and NOT_STARTED. The
-    line has all packages of `PACKAGES` that are missing."""
+    line has all packages of `PACKAGES` that are missing. In a virtual environment pip installs them."""
     if has(*modules):
         return
     try_debian(*modules)
     missing = [packages for module, packages in PACKAGES.items() if not has(module) and (module in modules or module != "jinja2")]
     names, debian = ", ".join(name for name, _ in missing), " ".join(package for _, package in missing)
-    end(f"lacks {names}; for /usr/bin/python3 of Debian: apt-get install {debian}")
+    pip = f"; here: pip install {names.replace(',', '')}" if sys.prefix != sys.base_prefix else ""
+    end(f"lacks {names}{pip}; for /usr/bin/python3 of Debian: apt-get install {debian}")
 
 
 def try_debian(*modules: str) -> None:
     """Runs this call again by Debian's Python, if a tool was called and that Python has the modules."""
-    script = Path(sys.argv[0] if sys.argv else "")
-    is_tool = script.name.startswith("fp_") and script.is_file() and script.resolve().parent == TOOLS
+    script = Path(sys.argv[0] if sys.argv else "").resolve()
+    is_tool = script.name.startswith("fp_") and script.is_file() and script.parent == TOOLS
     flags = sys.orig_argv[1 : len(sys.orig_argv) - len(sys.argv)]
     if TRIED or not is_tool or not os.access(DEBIAN, os.X_OK):
         return

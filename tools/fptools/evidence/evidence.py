@@ -19,7 +19,7 @@ from fptools.files.setup import Setup
 from fptools.stack.stacks import Stack
 from fptools.files.toml import read_toml
 
-DATA = TOP / "tools/fptools/evidence/evidence.toml"
+DATA = Path(__file__).resolve().parent / "evidence.toml"
 RECORD = TOP / "out/test.json"
 """What the last whole ./test of this checkout left."""
 
@@ -117,7 +117,7 @@ class Evidence:
 
 
 def read_data(path: Path = DATA) -> dict[str, Any]:
-    """The tables of evidence.toml. What is installed by tools/install.sh has none."""
+    """The tables of evidence.toml. What pip or tools/install.sh installs has none."""
     if not path.is_file():
         raise NoClause(
             f"{path} isn't there: evidence needs the repository, whose sources it quotes"

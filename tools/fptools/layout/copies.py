@@ -4,11 +4,14 @@ from __future__ import annotations
 from collections.abc import Iterable, Iterator
 from dataclasses import dataclass
 
-import networkx
-
+from fptools import require
 from fptools.layout.assembly import Stays
 from fptools.layout.blocks import Block, Item, Part
 from fptools.layout.regions import Flows, Loop, Nest, Section
+
+require("networkx")
+
+import networkx
 
 MOST_CANDIDATES = 16
 """So many entries of a loop are tried as its head."""
