@@ -57,7 +57,7 @@ def test_a_sampled_plant_shows_its_word_until_the_next_sample() -> None:
     assert [plant([PortStore(4, 101)], cycle) for cycle in (0, 7, 8, 15, 16)] == [0, 0, 101, 101, 202]
 
 
-TOP = Path(__file__).parents[2]
+TOP = Path(__file__).resolve().parents[2]
 
 CYCLES = 6_400
 
