@@ -46,3 +46,18 @@ def test_it_is_tried_once(bare: Path) -> None:
 def test_what_is_no_tool_is_not_run_again(bare: Path) -> None:
     ran = called(bare, "-c", "import fptools.files.pyelf", PYTHONPATH=str(TOOLS))
     assert ran.returncode == 2 and "lacks pyelftools" in ran.stderr
+
+
+def test_a_link_of_another_name_is_the_tool(bare: Path, tmp_path: Path) -> None:
+    (tmp_path / "numbers").symlink_to(TOOLS / "fp_addresses")
+    ran = called(bare, tmp_path / "numbers", "--elf", ELF, "main0", "main1")
+    assert (ran.returncode, ran.stderr) == (0, "") and ran.stdout.count("0x") == 2
+
+
+@pytest.mark.parametrize("name", ["fp_budget", "fp_layout", "fp_view"])
+def test_an_installed_tool_names_what_pip_installs(bare: Path, name: str) -> None:
+    """A virtual environment's own Python runs it, since Debian's one doesn't have the package."""
+    call = f"import sys; sys.argv = ['{name}', '--help']; from fptools.commands.{name} import main"
+    ran = called(bare, "-c", call, PYTHONPATH=str(TOOLS))
+    assert ran.returncode == 2 and ran.stderr.startswith(f"{name}: {bare} (Python")
+    assert "here: pip install pyelftools jsonschema networkx;" in ran.stderr
