@@ -16,7 +16,6 @@ from fptools.layout.layout import Laid, Marks, Options, lay_out, partner
 from fptools.layout.same_flow import do_the_same
 
 HEAD = '\t.file\t"code.c"\n\t.option nopic\n\t.attribute arch, "rv32i2p1_m2p0_zicsr2p0"\n\t.text\n'
-CLANG_HEAD = '\t.text\n\t.attribute\t4, 16\n\t.attribute\t5, "rv32i2p0_m2p0"\n\t.file\t"code.c"\n'
 RET = "\tret\n"
 LOOP_AT_END = """\
 \tj\t.L2
