@@ -11,6 +11,7 @@ from dev.gate.tests.test_types import pinned
 SHELLCHECK = "0.9.0"
 """The version of Debian 12."""
 
+
 def scripts() -> list[str]:
     """The repository's scripts of bash, by their names at the top."""
     found = [TOP / name for name in ("test", "flexpret", "flexpret-view", ".ci/run")]

@@ -10,10 +10,10 @@ was made of the executable. A source that is newer than its map is reported. Exi
 address isn't known, the image is of another executable, or a file can't be read."""
 from __future__ import annotations
 
-import argparse
 import sys
 from pathlib import Path
 
+from fptools.commands.common import failed, new_parser
 from fptools.files.elf import Program, ProgramError
 from fptools.files.image import ImageError, read_image
 from fptools.files.labels import named_by
@@ -52,9 +52,7 @@ def look_at_map(program: Program) -> None:
 
 
 def main() -> int:
-    parser = argparse.ArgumentParser(
-        prog=NAME, description=__doc__, formatter_class=argparse.RawDescriptionHelpFormatter
-    )
+    parser = new_parser(__doc__, NAME)
     parser.add_argument(
         "address", nargs="+", metavar="ADDRESS", help="a number, NAME or NAME+NUMBER"
     )
@@ -77,8 +75,7 @@ def main() -> int:
                 raise ProgramError("--routines needs --elf, and the two addresses of a section")
             write_routines(asked.routines, program, *addresses)
     except (OSError, ProgramError) as fault:
-        print(f"{NAME}: {fault}", file=sys.stderr)
-        return 2
+        return failed(NAME, fault)
     for address in addresses:
         print(f"{address:#010x}")
     return 0

@@ -78,6 +78,7 @@ import tempfile
 from pathlib import Path
 from typing import Mapping, NoReturn, Sequence
 
+from fptools.commands.common import failed, new_parser
 from fptools.budget.files import (
     Assumption, Budget, PeriodOf, Result, ValidationError, Verdict, fault_text, read_budgets,
 )  # fmt: skip
@@ -111,9 +112,7 @@ def run_cycles(text: str) -> int:
 
 
 def parser_of() -> argparse.ArgumentParser:
-    parser = argparse.ArgumentParser(
-        description=__doc__, formatter_class=argparse.RawDescriptionHelpFormatter
-    )
+    parser = new_parser(__doc__)
     add = parser.add_argument
     add(
         "file",
@@ -211,8 +210,7 @@ def checked_setup(path: Path) -> Setup:
     setup = read_valid(path)
     permits = [f"T{it.id}" for it in setup.threads if it.permit]
     if permits:
-        print(f"fp_budget: {', '.join(permits)}: a permit; {QUIET}", file=sys.stderr)
-    return setup
+        return failed("fp_budget", f"{', '.join(permits)}: a permit; {QUIET}", setup)
 
 
 def of_budgets(asked: argparse.Namespace) -> list[Result]:
@@ -321,8 +319,7 @@ def write(
         if fault is None and (old := old_comment(asked)):
             print(f"fp_budget: {old}", file=sys.stderr)
     except (OSError, ValueError) as failure:
-        print(f"fp_budget: {failure}", file=sys.stderr)
-        return Verdict.UNKNOWN
+        return failed("fp_budget", failure, Verdict.UNKNOWN)
     verdicts = [*(it.verdict for it in found), *(it.verdict for it in stacks)]
     return max(verdicts, default=Verdict.UNKNOWN)
 

@@ -37,6 +37,7 @@ from pathlib import Path
 from subprocess import SubprocessError
 from typing import Any
 
+from fptools.commands.common import failed, new_parser
 from fptools.budget.files import Result, ValidationError, Verdict, fault_text, read_budgets
 from fptools.budget.runs import Runs
 from fptools.budget.budgets import Judge
@@ -72,9 +73,7 @@ FAULTS = (
 
 
 def parse() -> argparse.Namespace:
-    parser = argparse.ArgumentParser(
-        prog=NAME, description=__doc__, formatter_class=argparse.RawDescriptionHelpFormatter
-    )
+    parser = new_parser(__doc__, NAME)
     add = parser.add_argument
     add("elf", type=Path, nargs="?", help="the executable that the image was made of")
     add("--setup", type=Path, help="the setup, whose image is sought as the program seeks it")
@@ -254,6 +253,5 @@ def main() -> int:
         print(*results, sep="\n")
         sys.stdout.flush()
     except FAULTS as fault:
-        print(f"{NAME}: {fault_text(fault, asked.budgets)}", file=sys.stderr)
-        return Verdict.UNKNOWN
+        return failed(NAME, fault_text(fault, asked.budgets), Verdict.UNKNOWN)
     return max((it.verdict for it in results), default=Verdict.UNKNOWN)

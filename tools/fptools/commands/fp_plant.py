@@ -24,6 +24,7 @@ from pathlib import Path
 from types import FrameType
 from typing import BinaryIO, Callable, NoReturn
 
+from fptools.commands.common import failed, let_reader_go
 from fptools.checkout import TOOLS, TOP
 from fptools.files.lint import read_valid
 from fptools.devices.plant_runs import (
@@ -39,7 +40,7 @@ from fptools.devices.plant_runs import (
 from fptools.files.toml import TomlError
 from fptools.limits import MOST_CYCLES
 
-FAILED, CANNOT, DIFFERS, INTERRUPTED = 1, 2, 3, 130
+FAILED, DIFFERS, INTERRUPTED = 1, 3, 130
 SIGNALS = (signal.SIGINT, signal.SIGTERM, signal.SIGHUP)
 LAUNCH = TOOLS / "fp_launch"
 MOST_LIST = 1 << 26
@@ -182,8 +183,7 @@ def run_all(asked: argparse.Namespace, files: ExitStack) -> int:
         return DIFFERS
     if check:
         told = f"the replay of {check.count} words by the proved loop gives the same trace"
-        print(f"fp_plant: {told}", file=sys.stderr)
-    return 0
+        return failed("fp_plant", told, 0)
 
 
 def main() -> int:
@@ -195,18 +195,15 @@ def main() -> int:
             status = run_all(asked, files)
         return status
     except PlantFailed as fault:
-        print(f"fp_plant: {fault}", file=sys.stderr)
-        return FAILED
+        return failed("fp_plant", fault, FAILED)
     except (BrokenPipeError, KeyboardInterrupt) as fault:
-        os.dup2(os.open(os.devnull, os.O_WRONLY), sys.stdout.fileno())
+        let_reader_go()
         return INTERRUPTED if isinstance(fault, KeyboardInterrupt) else 0
     except OSError as fault:
         where = f"{fault.filename}: " if fault.filename else ""
-        print(f"fp_plant: {where}{fault.strerror}", file=sys.stderr)
-        return CANNOT
+        return failed("fp_plant", f"{where}{fault.strerror}")
     except (NotRun, TomlError, ValueError) as fault:
-        print(f"fp_plant: {fault}", file=sys.stderr)
-        return CANNOT
+        return failed("fp_plant", fault)
 
 
 def interrupt(_number: int, _frame: FrameType | None) -> NoReturn:

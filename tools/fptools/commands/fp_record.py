@@ -24,6 +24,7 @@ import tempfile
 from pathlib import Path
 from typing import Iterator, Mapping, Sequence
 
+from fptools.commands.common import failed, let_reader_go, new_parser
 from fptools.core.compared import THREADS, Compared, CompareFailed, Comparer, Difference, split
 from fptools.isa.disassembly import Disassembler, find_tool
 from fptools.files.elf import Program, ProgramError
@@ -37,7 +38,7 @@ from fptools.limits import MOST_CYCLES
 from fptools.view.rows import VIEW_BESIDE, VIEW_HELP, View, ViewFailed
 
 NAME = "fp_record"
-DIFFERS, CANNOT = 1, 2
+DIFFERS = 1
 BEFORE = 4  # lines before a difference
 VIEWED_BEFORE, VIEWED_AFTER = 4, 6  # cycles of the view before a difference, and from it on
 BUILT_VIEW = VIEW_BESIDE.parent / "crates/flexpret_view/out/flexpret_view"
@@ -60,9 +61,7 @@ def renamed(text: str) -> tuple[str, str]:
 
 
 def parse() -> argparse.Namespace:
-    parser = argparse.ArgumentParser(
-        prog=NAME, description=__doc__, formatter_class=argparse.RawDescriptionHelpFormatter
-    )
+    parser = new_parser(__doc__, NAME)
     add = parser.add_argument
     add("record", type=Path, metavar="RECORD", help="the recorded signals")
     add("--thread", type=int, choices=THREADS, metavar="I", help="writes the trace of this thread")
@@ -180,11 +179,9 @@ def main() -> int:
             return compare(given, names)
         write_trace(given, names)
     except BrokenPipeError:
-        os.dup2(os.open(os.devnull, os.O_WRONLY), sys.stdout.fileno())
+        let_reader_go()
     except ViewFailed as fault:
-        print(f"{NAME}: the view: {(fault.output or fault.errors).strip()}", file=sys.stderr)
-        return CANNOT
+        return failed(NAME, f"the view: {(fault.output or fault.errors).strip()}")
     except (OSError, RecordError, TomlError, ProgramError, CompareFailed, ValueError) as fault:
-        print(f"{NAME}: {fault}", file=sys.stderr)
-        return CANNOT
+        return failed(NAME, fault)
     return 0

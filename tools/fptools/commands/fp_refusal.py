@@ -10,11 +10,10 @@ package, pyelftools. Exit status: 0; 2 if the line is no refusal, a file that it
 or the package is missing."""
 from __future__ import annotations
 
-import argparse
-import os
 import sys
 from pathlib import Path
 
+from fptools.commands.common import failed, let_reader_go, new_parser
 from fptools.files.labels import named_by
 from fptools.program.refusals import FAULTS, Context, explain
 
@@ -22,9 +21,7 @@ NAME = "fp_refusal"
 
 
 def main() -> int:
-    parser = argparse.ArgumentParser(
-        prog=NAME, description=__doc__, formatter_class=argparse.RawDescriptionHelpFormatter
-    )
+    parser = new_parser(__doc__, NAME)
     add = parser.add_argument
     add("line", nargs="*", help="the refusal, as one word or as many")
     add("--setup", type=Path, help="the setup of the command")
@@ -40,8 +37,7 @@ def main() -> int:
             print(line)
         sys.stdout.flush()
     except BrokenPipeError:
-        os.dup2(os.open(os.devnull, os.O_WRONLY), sys.stdout.fileno())
+        let_reader_go()
     except FAULTS as fault:
-        print(f"{NAME}: {fault}", file=sys.stderr)
-        return 2
+        return failed(NAME, fault)
     return 0

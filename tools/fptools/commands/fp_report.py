@@ -31,6 +31,7 @@ import sys
 from pathlib import Path
 from subprocess import SubprocessError
 
+from fptools.commands.common import failed, new_parser
 from fptools.budget.files import ValidationError, Verdict, fault_text, read_budgets
 from fptools.files.elf import Program, ProgramError
 from fptools.report.findings import NAME, Findings, NoReport, Question
@@ -74,9 +75,7 @@ run_cycles.__name__, window.__name__ = "number of cycles", "window A:B"  # in me
 
 
 def parse() -> argparse.Namespace:
-    parser = argparse.ArgumentParser(
-        prog=NAME, description=__doc__, formatter_class=argparse.RawDescriptionHelpFormatter
-    )
+    parser = new_parser(__doc__, NAME)
     add = parser.add_argument
     add("setup", type=Path, help="the setup, whose image is sought as the program seeks it")
     add(
@@ -162,10 +161,8 @@ def main() -> int:
         sys.stdout.flush()
         write_whole(asked.out, page)
     except FAULTS as fault:
-        print(f"{NAME}: {fault_text(fault, asked.budgets)}", file=sys.stderr)
-        return Verdict.UNKNOWN
+        return failed(NAME, fault_text(fault, asked.budgets), Verdict.UNKNOWN)
     except KeyboardInterrupt:
-        print(f"{NAME}: stopped: nothing was written", file=sys.stderr)
-        return Verdict.UNKNOWN
+        return failed(NAME, "stopped: nothing was written", Verdict.UNKNOWN)
     verdicts = [*(it.result.verdict for it in findings.found), *(it.verdict for it in stacks)]
     return max(verdicts, default=Verdict.UNKNOWN)

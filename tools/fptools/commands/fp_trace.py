@@ -10,11 +10,11 @@ of another program than the executable; 3 where a line is no event: those before
 from __future__ import annotations
 
 import argparse
-import os
 import sys
 from pathlib import Path
 from subprocess import SubprocessError
 
+from fptools.commands.common import failed, let_reader_go, new_parser
 from fptools.files.trace_blocks import Block, BrokenTrace, Live, Progress, Source, TraceReader
 from fptools.isa.disassembly import Disassembler, find_tool
 from fptools.files.elf import Program, ProgramError, other_word
@@ -28,7 +28,7 @@ from fptools.isa.turns import Turns, turns_of
 from fptools.visits.visits import WaitJudge
 
 NAME = "fp_trace"
-CANNOT, BROKEN_TRACE = 2, 3
+BROKEN_TRACE = 3
 DEFAULT_PERIOD = 10
 MOST_STORED = 0xFFFF_FFFF
 
@@ -58,9 +58,7 @@ def add_events(parser: argparse.ArgumentParser) -> None:
 
 
 def parse() -> argparse.Namespace:
-    parser = argparse.ArgumentParser(
-        prog=NAME, description=__doc__, formatter_class=argparse.RawDescriptionHelpFormatter
-    )
+    parser = new_parser(__doc__, NAME)
     add = parser.add_argument
     add("trace", nargs="?", type=Path, help="a file; left out, standard input")
     add("--setup", type=Path, help="the setup of the run, for its period and the thread's turns")
@@ -190,13 +188,11 @@ def main() -> int:
         else:
             shower.show(Live(sys.stdin.fileno()), "standard input")
     except BrokenPipeError:
-        os.dup2(os.open(os.devnull, os.O_WRONLY), sys.stdout.fileno())
+        let_reader_go()
     except BrokenTrace as fault:
-        print(f"{NAME}: {fault}", file=sys.stderr)
-        return BROKEN_TRACE
+        return failed(NAME, fault, BROKEN_TRACE)
     except KeyboardInterrupt:
         return BROKEN_TRACE
     except (OSError, ValueError, SubprocessError, ImageError, ProgramError) as fault:
-        print(f"{NAME}: {fault}", file=sys.stderr)
-        return CANNOT
+        return failed(NAME, fault)
     return 0

@@ -25,6 +25,8 @@ from pathlib import Path
 from subprocess import SubprocessError
 from typing import Callable, NoReturn
 
+from fptools.commands.common import failed
+from fptools.program.status import CANNOT
 from fptools.launch.files import lines
 from fptools.launch.view import MOST_CYCLE
 from fptools.files.elf import Program, ProgramError, other_word
@@ -45,7 +47,7 @@ from fptools.view.text import text_of
 from fptools.files.written import write_whole
 
 NAME = "fp_view"
-NEVER, CANNOT, UNREADABLE, NOT_WRITTEN = 1, 2, 7, 8
+NEVER, UNREADABLE, NOT_WRITTEN = 1, 7, 8
 BEFORE_EVENT, AFTER_EVENT, WITHIN = 20, 60, 1_000_000
 FAULTS = (
     *(OSError, ValueError, ImageError, ProgramError, BadEvent, BadMark),
@@ -254,12 +256,9 @@ def main() -> int:
         sys.stderr.write("".join(told) if fault.status == UNREADABLE else fault.errors)
         return fault.status
     except NeverCame as fault:
-        print(f"{NAME}: {fault}", file=sys.stderr)
-        return NEVER
+        return failed(NAME, fault, NEVER)
     except (BadWindow, *FAULTS) as fault:
-        print(f"{NAME}: {fault}", file=sys.stderr)
-        return CANNOT
+        return failed(NAME, fault)
     except KeyboardInterrupt:
-        print(f"{NAME}: stopped: nothing was written", file=sys.stderr)
-        return CANNOT
+        return failed(NAME, "stopped: nothing was written")
     return put(asked.svg or asked.vcd or asked.konata, text)

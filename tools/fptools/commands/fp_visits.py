@@ -33,12 +33,13 @@ from __future__ import annotations
 
 import argparse
 import json
-import os
 import sys
 from dataclasses import replace
 from pathlib import Path
 from typing import Any
 
+from fptools.commands.common import failed, let_reader_go, new_parser
+from fptools.program.status import CANNOT
 from fptools.files.trace_blocks import Live, Progress, TraceReader
 from fptools.budget.bounds import called_functions, with_bound
 from fptools.budget.files import Result, ValidationError, read_budgets
@@ -69,7 +70,7 @@ from fptools.limits import MOST_CYCLES
 from fptools.visits.visits import Watched
 
 NAME = "fp_visits"
-BROKE, CANNOT, BROKEN_TRACE = 1, 2, 3
+BROKE, BROKEN_TRACE = 1, 3
 THREADS = range(8)
 
 
@@ -85,9 +86,7 @@ def cycles(text: str) -> int:
 
 
 def parse() -> argparse.Namespace:
-    parser = argparse.ArgumentParser(
-        prog=NAME, description=__doc__, formatter_class=argparse.RawDescriptionHelpFormatter
-    )
+    parser = new_parser(__doc__, NAME)
     add = parser.add_argument
     add(
         "trace",
@@ -385,7 +384,7 @@ def main() -> int:
         write(asked, seen, status, periods)
         look_at_sources(asked)
     except BrokenPipeError:
-        os.dup2(os.open(os.devnull, os.O_WRONLY), sys.stdout.fileno())
+        let_reader_go()
         return 0
     except ValidationError as fault:
         print(
@@ -394,6 +393,5 @@ def main() -> int:
         )
         return CANNOT
     except (OSError, ValueError, ImageError, ProgramError, RunFailed, Unclear) as fault:
-        print(f"{NAME}: {fault}", file=sys.stderr)
-        return CANNOT
+        return failed(NAME, fault)
     return status

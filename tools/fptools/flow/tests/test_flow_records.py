@@ -9,6 +9,8 @@ from fptools.files.elf import Function, Line, Program
 from fptools.flow.records import Claim, Kind, Mark, Marks, RecordError, read_records
 
 NOP, RET = 0x13, 0x8067
+
+
 def record(
     at: int, kind: int = 0, most: int = 8, order: int = 0, unit: int = 5, unit_name: str = ""
 ) -> bytes:
