@@ -210,7 +210,8 @@ def checked_setup(path: Path) -> Setup:
     setup = read_valid(path)
     permits = [f"T{it.id}" for it in setup.threads if it.permit]
     if permits:
-        return failed("fp_budget", f"{', '.join(permits)}: a permit; {QUIET}", setup)
+        print(f"fp_budget: {', '.join(permits)}: a permit; {QUIET}", file=sys.stderr)
+    return setup
 
 
 def of_budgets(asked: argparse.Namespace) -> list[Result]:
