@@ -44,6 +44,7 @@ MODULES = {
 """The modules that the tests import beyond Python itself, and their Debian packages."""
 
 COMMANDS = {
+    'black': 'black',
     'mypy': 'mypy',
     'pyflakes3': 'pyflakes3',
     'shellcheck': 'shellcheck',
@@ -144,6 +145,7 @@ def parts(jobs: int) -> list[Part]:
         *(script(*text, programs=False) for text in texts if (TOP / text[0]).is_file()),
         script('dev/crates/layers.py', '--check', modules=['networkx'], programs=False),
         script('dev/crates/lines.py', '--check', programs=False),
+        script('dev/gate/format.py', '--check', name='format', commands=['black'], programs=False),
         Part('tables of the model', ['{python}', '-m', 'model.tables.check'], commands=['riscv64-unknown-elf-as', 'qemu-riscv32'],
              programs=False),
         pytest('tools', 'tools/fptools dev examples/tests', jobs, ['elftools', 'jsonschema', 'networkx', 'hypothesis']),
@@ -338,17 +340,18 @@ def tests_in(folders: str) -> int:
 def counted(part: Part, status: int, said: str) -> Sum:
     """The tests of a part that ran."""
     found = Sum()
+    skipped = [(int(count), why) for count, why in SKIPPED.findall(said)]
     if part.tests:
         lines = [line for line in PYTEST_LINE.finditer(said) if any(line.groups())]
         numbers = [int(number or 0) for number in lines[-1].groups()] if lines else [0, 0, 0, 0]
-        found = Sum(numbers[1], numbers[0] + numbers[3], [(int(count), why) for count, why in SKIPPED.findall(said)])
+        found = Sum(numbers[1], numbers[0] + numbers[3], skipped)
     elif COMPARED.search(said):
         rows = [(int(row['done']), int(row['differ'])) for row in COMPARED.finditer(said)]
         found = Sum(sum(done - differ for done, differ in rows), sum(differ for _, differ in rows))
     elif DONE.search(said) or DIFFERS.search(said):
         found = Sum(len(DONE.findall(said)), len(DIFFERS.findall(said)))
     else:
-        found = Sum(passed=int(status == 0))
+        found = Sum(passed=int(status == 0 and not skipped), skipped=skipped)
     if status and not found.failed:
         found.failed = 1
     return found

@@ -22,6 +22,7 @@ TESTS = Part("tests", ["x"], tests="tools/fptools")
     [
         (SCRIPT, 0, "", "1 passed, 0 failed"),
         (SCRIPT, 1, "wrong", "0 passed, 1 failed"),
+        (SCRIPT, 0, "SKIPPED [1] a.py: black is not 1.0\n", "0 passed, 0 failed, 1 skipped"),
         (SCRIPT, 0, "as shown: a\nas shown: b\n", "2 passed, 0 failed"),
         (SCRIPT, 1, "as shown: a\ndiffers: b\n", "1 passed, 1 failed"),
         (SCRIPT, 1, "as shown: a\nkilled\n", "1 passed, 1 failed"),

@@ -56,12 +56,10 @@ def main() -> int:
     parser.add_argument(
         "address", nargs="+", metavar="ADDRESS", help="a number, NAME or NAME+NUMBER"
     )
-    parser.add_argument("--elf", type=Path, metavar="FILE", help="the executable")
-    parser.add_argument("--map", type=Path, metavar="FILE", help="a map that fp_asm wrote")
-    parser.add_argument("--setup", type=Path, metavar="SETUP", help="the setup whose image has the names")
-    parser.add_argument(
-        "--routines", type=Path, metavar="FILE", help="write the functions that the section reaches"
-    )
+    parser.path("--elf", "the executable", "FILE")
+    parser.path("--map", "a map that fp_asm wrote", "FILE")
+    parser.path("--setup", "the setup whose image has the names", "SETUP")
+    parser.path("--routines", "write the functions that the section reaches", "FILE")
     asked = parser.parse_args()
     try:
         program = named_by(asked.elf, asked.map)

@@ -53,10 +53,10 @@ def _umask() -> int:
 
 def main() -> int:
     parser = new_parser(__doc__, NAME)
-    parser.add_argument("source", type=Path, help="the assembly source")
-    parser.add_argument("image", type=Path, help="what the program made of it")
-    parser.add_argument("--listing", type=Path, metavar="FILE", help="where the listing is written")
-    parser.add_argument("--map", type=Path, metavar="FILE", help="where the map of addresses is written")
+    parser.path("source", "the assembly source")
+    parser.path("image", "what the program made of it")
+    parser.path("--listing", "where the listing is written", "FILE")
+    parser.path("--map", "where the map of addresses is written", "FILE")
     asked = parser.parse_args()
     try:
         source = read_source(asked.source)

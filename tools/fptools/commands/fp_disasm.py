@@ -10,7 +10,6 @@ is no image, or the image isn't made of the executable."""
 from __future__ import annotations
 
 import sys
-from pathlib import Path
 
 from fptools.commands.common import failed, let_reader_go, new_parser
 from fptools.asm.source import disassembled
@@ -23,9 +22,9 @@ NAME = "fp_disasm"
 
 def main() -> int:
     parser = new_parser(__doc__, NAME)
-    parser.add_argument("image", type=Path, help="the image that was disassembled")
-    parser.add_argument("--elf", type=Path, metavar="FILE", help="the executable that the image was made of")
-    parser.add_argument("--map", type=Path, metavar="FILE", help="the map of the source that it was made of")
+    parser.path("image", "the image that was disassembled")
+    parser.path("--elf", "the executable that the image was made of", "FILE")
+    parser.path("--map", "the map of the source that it was made of", "FILE")
     asked = parser.parse_args()
     try:
         words = read_image(asked.image)

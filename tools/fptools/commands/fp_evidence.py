@@ -76,8 +76,8 @@ def parse() -> argparse.Namespace:
     parser = new_parser(__doc__, NAME)
     add = parser.add_argument
     add("elf", type=Path, nargs="?", help="the executable that the image was made of")
-    add("--setup", type=Path, help="the setup, whose image is sought as the program seeks it")
-    add("--budgets", type=Path, help="the budgets, as fp_budget reads them")
+    parser.path("--setup", "the setup, whose image is sought as the program seeks it")
+    parser.path("--budgets", "the budgets, as fp_budget reads them")
     add("-o", dest="out", type=Path, metavar="FOLDER", help="the folder to write")
     add(
         "--runs",
@@ -85,15 +85,10 @@ def parse() -> argparse.Namespace:
         metavar="N",
         help="run each thread for N cycles, and compare the executions too",
     )
-    add(
-        "--src",
-        type=Path,
-        metavar="DIR",
-        help="where the sources are, if not where they were compiled",
-    )
+    parser.path("--src", "where the sources are, if not where they were compiled", "DIR")
     add("--title", help="the title of the page")
-    add("--read", action="store_true", help="write the checksums of the promises, and nothing else")
-    add("--flexpret", metavar="PROGRAM", help=HELP)
+    parser.flag("--read", "write the checksums of the promises, and nothing else")
+    parser.add_argument("--flexpret", metavar="PROGRAM", help=HELP)
     asked = parser.parse_args()
     if not asked.read:
         for name in ("elf", "setup", "budgets", "out"):

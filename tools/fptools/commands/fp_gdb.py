@@ -35,15 +35,10 @@ CYCLES = 10_000_000
 def parse() -> argparse.Namespace:
     parser = new_parser(__doc__, NAME)
     add = parser.add_argument
-    add("setup", type=Path, help="the setup of the run")
-    add(
-        "--elf",
-        type=Path,
-        metavar="FILE",
-        help="the executable: compared with the image, and names for monitor",
-    )
+    parser.path("setup", "the setup of the run")
+    parser.path("--elf", "the executable: compared with the image, and names for monitor", "FILE")
     add("--cycles", type=int, default=CYCLES, metavar="N", help=f"where the run ends ({CYCLES})")
-    add("--flexpret", metavar="PROGRAM", help=HELP)
+    parser.add_argument("--flexpret", metavar="PROGRAM", help=HELP)
     asked = parser.parse_args()
     if not 1 <= asked.cycles <= MOST_CYCLES:
         parser.error(f"--cycles {asked.cycles}: cycles are 1 to {MOST_CYCLES}")

@@ -57,13 +57,13 @@ def cycles(text: str) -> int:
 def parse() -> argparse.Namespace:
     parser = new_parser(__doc__, "fp_inputs")
     add = parser.add_argument
-    add("setup", type=Path, metavar="SETUP", help="the setup")
-    add("csv", type=Path, metavar="CSV", help="the inputs")
+    parser.path("setup", "the setup", "SETUP")
+    parser.path("csv", "the inputs", "CSV")
     add("--thread", type=int, choices=range(8), required=True, metavar="i", help="their thread")
     add("--scale", type=scale, default=Decimal(1), metavar="F", help="the word of a value 1")
-    add("--changes", action="store_true", help="leaves out inputs that change nothing")
+    parser.flag("--changes", "leaves out inputs that change nothing")
     add("--every", type=cycles, metavar="N", help="leaves the first input of each N cycles")
-    add("--replace", action="store_true", help="the inputs that the thread has are taken out")
+    parser.flag("--replace", "the inputs that the thread has are taken out")
     add("-o", "--output", type=Path, metavar="FILE", help="the new setup")
     return parser.parse_args()
 

@@ -18,7 +18,7 @@ def main() -> int:
     parser.add_argument(
         "setup", type=Path, nargs="+", help="a setup; its image is sought as the program seeks it"
     )
-    parser.add_argument("--notes", action="store_true", help="show notes too")
+    parser.flag("--notes", "show notes too")
     asked = parser.parse_args()
     status = 0
     for path in asked.setup:

@@ -30,7 +30,7 @@ from fptools.files.sources import Sources
 def parse() -> argparse.Namespace:
     parser = new_parser(__doc__)
     add = parser.add_argument
-    add("elf", type=Path, help="the executable")
+    parser.path("elf", "the executable")
     add(
         "--from",
         dest="start",
@@ -44,9 +44,9 @@ def parse() -> argparse.Namespace:
         metavar="A",
         help="the address behind the last; left out: the function of --from, which is left by its returns",
     )
-    add("--calls", action="store_true", help="calls of functions come back, as for the command `calls`")
-    add("--setup", type=Path, help="the setup that the tables are for: its image has to be made of ELF")
-    add("--src", type=Path, metavar="DIR", help="where the sources are, if not where they were compiled")
+    parser.flag("--calls", "calls of functions come back, as for the command `calls`")
+    parser.path("--setup", "the setup that the tables are for: its image has to be made of ELF")
+    parser.path("--src", "where the sources are, if not where they were compiled", "DIR")
     return parser.parse_args()
 
 

@@ -24,9 +24,7 @@ THREADS = 2
 
 def parse() -> argparse.Namespace:
     parser = new_parser(__doc__, "fp_new")
-    parser.add_argument(
-        "folder", metavar="FOLDER", type=Path, help="the folder, which isn't there yet"
-    )
+    parser.path("folder", "the folder, which isn't there yet", "FOLDER")
     parser.add_argument(
         "--threads",
         type=int,
@@ -34,11 +32,7 @@ def parse() -> argparse.Namespace:
         metavar="N",
         help=f"the hard threads, 1 to {MOST_THREADS} ({THREADS})",
     )
-    parser.add_argument(
-        "--big",
-        action="store_true",
-        help="scratchpads of 64 KiB, 8 KiB for each thread; else 16 and 2 (version = 2)",
-    )
+    parser.flag("--big", "scratchpads of 64 KiB, 8 KiB for each thread; else 16 and 2 (version = 2)")
     return parser.parse_args()
 
 

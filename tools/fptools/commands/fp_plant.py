@@ -24,7 +24,7 @@ from pathlib import Path
 from types import FrameType
 from typing import BinaryIO, Callable, NoReturn
 
-from fptools.commands.common import failed, let_reader_go
+from fptools.commands.common import Parser, failed, let_reader_go
 from fptools.checkout import TOOLS, TOP
 from fptools.files.lint import read_valid
 from fptools.devices.plant_runs import (
@@ -70,7 +70,7 @@ def seconds(text: str) -> float:
 
 
 def parse(words: list[str]) -> argparse.Namespace:
-    parser = argparse.ArgumentParser(
+    parser = Parser(
         prog="fp_plant",
         usage="fp_plant SETUP --thread i --every N --cycles N [options] -- COMMAND ..",
         description=__doc__,
@@ -82,10 +82,10 @@ def parse(words: list[str]) -> argparse.Namespace:
     cycles = number(1, MOST_CYCLES)
     add("--every", type=cycles, required=True, metavar="N", help="cycles between two exchanges")
     add("--cycles", type=cycles, required=True, metavar="N", help="cycles of the run")
-    add("--plants", type=Path, metavar="FILE", help="a list of loop_cli, for other threads")
+    parser.path("--plants", "a list of loop_cli, for other threads", "FILE")
     add("-o", "--output", type=Path, metavar="FILE", help="the trace, if not standard output")
-    add("--log", type=Path, metavar="FILE", help="writes `CYCLE WORD ANSWER` of each exchange")
-    add("--check", action="store_true", help="compares with a replay by the proved loop")
+    parser.path("--log", "writes `CYCLE WORD ANSWER` of each exchange", "FILE")
+    parser.flag("--check", "compares with a replay by the proved loop")
     limit = "the plant has to answer in S seconds (60)"
     add("--timeout", type=seconds, default=60.0, metavar="S", help=limit)
     name = "loop_cli; if left out, what LOOP_CLI names, or the one of this repository"

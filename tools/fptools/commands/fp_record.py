@@ -63,9 +63,9 @@ def renamed(text: str) -> tuple[str, str]:
 def parse() -> argparse.Namespace:
     parser = new_parser(__doc__, NAME)
     add = parser.add_argument
-    add("record", type=Path, metavar="RECORD", help="the recorded signals")
-    add("--thread", type=int, choices=THREADS, metavar="I", help="writes the trace of this thread")
-    add("--compare", type=Path, metavar="SETUP", help="compares all threads with a run of SETUP")
+    parser.path("record", "the recorded signals", "RECORD")
+    parser.thread("writes the trace of this thread")
+    parser.path("--compare", "compares all threads with a run of SETUP", "SETUP")
     add("--cycles", type=cycles, metavar="N", help="the cycles that were recorded")
     add(
         *("--signal", "-s"),
@@ -75,9 +75,9 @@ def parse() -> argparse.Namespace:
         metavar="NAME=THEIRS",
         help="the name of a signal in RECORD, in VCD also with scopes",
     )
-    add("--elf", type=Path, metavar="FILE", help="names of addresses from the executable")
-    add("--map", type=Path, metavar="FILE", help="names of addresses from a map (asm --map)")
-    add("--flexpret", metavar="PROGRAM", help=HELP)
+    parser.path("--elf", "names of addresses from the executable", "FILE")
+    parser.path("--map", "names of addresses from a map (asm --map)", "FILE")
+    parser.add_argument("--flexpret", metavar="PROGRAM", help=HELP)
     add("--view", metavar="PROGRAM", help=VIEW_HELP)
     given = parser.parse_args()
     if (given.thread is None) == (given.compare is None):

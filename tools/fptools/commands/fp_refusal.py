@@ -11,7 +11,6 @@ or the package is missing."""
 from __future__ import annotations
 
 import sys
-from pathlib import Path
 
 from fptools.commands.common import failed, let_reader_go, new_parser
 from fptools.files.labels import named_by
@@ -24,12 +23,12 @@ def main() -> int:
     parser = new_parser(__doc__, NAME)
     add = parser.add_argument
     add("line", nargs="*", help="the refusal, as one word or as many")
-    add("--setup", type=Path, help="the setup of the command")
-    add("--file", type=Path, help="the source, image, executable or list of routines")
-    add("--thread", type=int, choices=range(8), metavar="I", help="the thread of the command")
-    add("--elf", type=Path, metavar="FILE", help="the executable that the image was made of")
-    add("--map", type=Path, metavar="FILE", help="the map of the source that it was made of")
-    add("--src", type=Path, metavar="DIR", help="where the sources are, if not where they were compiled")
+    parser.path("--setup", "the setup of the command")
+    parser.path("--file", "the source, image, executable or list of routines")
+    parser.thread("the thread of the command")
+    parser.path("--elf", "the executable that the image was made of", "FILE")
+    parser.path("--map", "the map of the source that it was made of", "FILE")
+    parser.path("--src", "where the sources are, if not where they were compiled", "DIR")
     asked = parser.parse_args()
     try:
         context = Context(asked.setup, asked.file, named_by(asked.elf, asked.map), asked.src, asked.thread)

@@ -77,26 +77,17 @@ run_cycles.__name__, window.__name__ = "number of cycles", "window A:B"  # in me
 def parse() -> argparse.Namespace:
     parser = new_parser(__doc__, NAME)
     add = parser.add_argument
-    add("setup", type=Path, help="the setup, whose image is sought as the program seeks it")
+    parser.path("setup", "the setup, whose image is sought as the program seeks it")
     add(
         "budgets",
         type=Path,
         nargs="?",
         help="the sections and their budgets, as fp_budget reads them; with --all they may be left out",
     )
-    add("--all", action="store_true", help="the periods and stacks of all hard threads too")
+    parser.flag("--all", "the periods and stacks of all hard threads too")
     add("-o", dest="out", type=Path, metavar="FILE", required=True, help="the file to write; - is refused")
-    add(
-        "--elf",
-        type=Path,
-        help="the executable that the image was made of, for names and source lines",
-    )
-    add(
-        "--src",
-        type=Path,
-        metavar="DIR",
-        help="where the sources are, if not where they were compiled",
-    )
+    parser.path("--elf", "the executable that the image was made of, for names and source lines")
+    parser.path("--src", "where the sources are, if not where they were compiled", "DIR")
     add(
         "--cycles",
         type=run_cycles,
@@ -108,7 +99,7 @@ def parse() -> argparse.Namespace:
         "--window", type=window, metavar="A:B", help=f"the timeline's cycles, {MOST_WINDOW} at most"
     )
     add("--title", help="the title of the page")
-    add("--flexpret", metavar="PROGRAM", help=HELP)
+    parser.add_argument("--flexpret", metavar="PROGRAM", help=HELP)
     asked = parser.parse_args()
     if asked.budgets is None and not asked.all:
         parser.error("BUDGETS is missing; without it --all answers for all hard threads")

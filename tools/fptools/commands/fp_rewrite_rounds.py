@@ -24,7 +24,7 @@ NAME = "fp_rewrite_rounds"
 def parse() -> argparse.Namespace:
     parser = new_parser(__doc__, NAME)
     parser.add_argument("sources", nargs="+", type=Path, metavar="SOURCE", help="a C source")
-    parser.add_argument("--in-place", action="store_true", help="change the files; else write standard output")
+    parser.flag("--in-place", "change the files; else write standard output")
     return parser.parse_args()
 
 

@@ -45,10 +45,10 @@ from fptools.stack.stacks import Stack, Stacks
 def parse() -> argparse.Namespace:
     parser = new_parser(__doc__)
     add = parser.add_argument
-    add("elf", type=Path, help="the executable that the setup's image was made of")
+    parser.path("elf", "the executable that the setup's image was made of")
     add("--setup", type=Path, required=True, help="the setup")
-    add("--thread", type=int, choices=range(8), metavar="I", help="only this thread")
-    add("--json", action="store_true", help="write the results as a JSON document")
+    parser.thread("only this thread")
+    parser.flag("--json", "write the results as a JSON document")
     return parser.parse_args()
 
 

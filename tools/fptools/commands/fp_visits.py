@@ -38,7 +38,7 @@ from dataclasses import replace
 from pathlib import Path
 from typing import Any
 
-from fptools.commands.common import failed, let_reader_go, new_parser
+from fptools.commands.common import Parser, failed, let_reader_go, new_parser
 from fptools.program.status import CANNOT
 from fptools.files.trace_blocks import Live, Progress, TraceReader
 from fptools.budget.bounds import called_functions, with_bound
@@ -94,7 +94,7 @@ def parse() -> argparse.Namespace:
         type=Path,
         help="a file; left out, standard input; with --cycles the setup, if --setup isn't given",
     )
-    add("--setup", type=Path, help="the setup of the run: its loop tables, slots, period and image")
+    parser.path("--setup", "the setup of the run: its loop tables, slots, period and image")
     add(
         "--period",
         type=int,
@@ -103,43 +103,27 @@ def parse() -> argparse.Namespace:
         help=f"nanoseconds of a cycle, if no setup is given ({DEFAULT_PERIOD})",
     )
     add("--cycles", type=cycles, metavar="N", help="run the setup for N cycles")
-    add(
-        "--thread",
-        type=int,
-        choices=THREADS,
-        metavar="I",
-        help="the thread, 0 to 7; left out, those of the budgets, or the only one",
-    )
-    add("--budgets", type=Path, metavar="FILE", help="sections and their budgets, as fp_budget reads them")
-    add(
-        "--section",
-        action="append",
-        default=[],
-        metavar="[NAME=]A:B",
-        help="the section from A up to below B",
-    )
-    add("--function", action="append", default=[], metavar="A", help="the function at this address")
-    add("--elf", type=Path, help="the executable that the image was made of, for names and functions")
-    add(
-        "--map",
-        type=Path,
-        metavar="FILE",
-        help="the map of the source that it was made of (flexpret asm --map), for names",
-    )
-    add("--calls", action="store_true", help="the sections of --section call functions of the executable")
-    add(
-        "--routines",
-        type=Path,
-        metavar="FILE",
-        help="they call these: lines of a first and a last word, as for the command calls",
-    )
-    add("--no-bounds", action="store_true", help="don't ask the program for bounds")
+    parser.thread("the thread, 0 to 7; left out, those of the budgets, or the only one")
+    parser.path("--budgets", "sections and their budgets, as fp_budget reads them", "FILE")
+    parser.many("--section", "[NAME=]A:B", "the section from A up to below B")
+    parser.many("--function", "A", "the function at this address")
+    parser.path("--elf", "the executable that the image was made of, for names and functions")
+    parser.path("--map", "the map of the source that it was made of (flexpret asm --map), for names", "FILE")
+    parser.flag("--calls", "the sections of --section call functions of the executable")
+    parser.path("--routines", "they call these: lines of a first and a last word, as for the command calls", "FILE")
+    parser.flag("--no-bounds", "don't ask the program for bounds")
     add("--from", dest="start", type=cycles, default=0, metavar="C", help="events from this cycle on")
     add("--to", dest="end", type=cycles, metavar="C", help="events before this cycle; the rest isn't read")
-    add("--json", action="store_true", help="write JSON")
-    add("--csv", action="store_true", help="write a row for each section")
-    add("--flexpret", metavar="PROGRAM", help=HELP)
+    parser.flag("--json", "write JSON")
+    parser.flag("--csv", "write a row for each section")
+    parser.add_argument("--flexpret", metavar="PROGRAM", help=HELP)
     asked = parser.parse_args()
+    refuse(parser, asked)
+    return asked
+
+
+def refuse(parser: Parser, asked: argparse.Namespace) -> None:
+    """Ends the call where its arguments don't go together. With --cycles the first one is the setup."""
     if asked.cycles is not None and asked.setup is None:
         asked.setup, asked.trace = asked.trace, None
     if asked.cycles is not None and (asked.trace or not asked.setup):
@@ -148,7 +132,6 @@ def parse() -> argparse.Namespace:
         parser.error("--budgets needs --setup, for the period and the bounds")
     if asked.json and asked.csv:
         parser.error("--json or --csv, not both")
-    return asked
 
 
 class Asked:
