@@ -134,6 +134,18 @@ entry = 0
 """
 
 
+FORWARDS = ((0, 2, 1, 1, 0), (1, 3, 3, 1, 0), (3, 2, 4, 1, 0), (4, 2, 7, 0, 14))
+"""The arrows of the pipeline: a row and a stage, the row and stage that they lead to, and how far right they begin."""
+
+PIPELINE_NOTES = (
+    "Green: a value is forwarded to D, from E or, for a load, from M."
+    " The load's value is late, so the turn of cycle 2 is lost.",
+    "Red: the taken branch redirects fetch when it is in E."
+    " The turns of the cycles 5 and 6 are lost: the lag is 3.",
+    "A thread whose slots are three or more cycles apart loses no turn.",
+)
+
+
 def pipeline() -> Figure:
     """The five stages over the cycles of a short program of a thread with all slots."""
     with tempfile.TemporaryDirectory() as name:
@@ -161,27 +173,12 @@ def pipeline() -> Figure:
     def centre(row: int, stage: int) -> tuple[float, float]:
         return left + (row + stage + 0.5) * wide, above + row * high + (high - 4) / 2
 
-    for producer, stage, consumer in ((0, 2, 1), (1, 3, 3), (3, 2, 4)):
+    for producer, stage, consumer, consumed, side in FORWARDS:
         x, y = centre(producer, stage)
-        to_x, to_y = centre(consumer, 1)
-        figure.arrow([(x, y + 11), (to_x, to_y - 11)], "w")
-    x, y = centre(4, 2)
-    to_x, to_y = centre(7, 0)
-    figure.arrow([(x + 14, y + 11), (to_x, to_y - 11)], "r")
-    y = above + 8.0 * high + 18
-    figure.text(
-        10,
-        y,
-        "Green: a value is forwarded to D, from E or, for a load, from M. The load's value is late, so the turn of cycle 2 is lost.",
-        "s",
-    )
-    figure.text(
-        10,
-        y + 18,
-        "Red: the taken branch redirects fetch when it is in E. The turns of the cycles 5 and 6 are lost: the lag is 3.",
-        "s",
-    )
-    figure.text(10, y + 36, "A thread whose slots are three or more cycles apart loses no turn.", "s")
+        to_x, to_y = centre(consumer, consumed)
+        figure.arrow([(x + side, y + 11), (to_x, to_y - 11)], "r" if side else "w")
+    for row, words in enumerate(PIPELINE_NOTES):
+        figure.text(10, above + 8.0 * high + 18 * (row + 1), words, "s")
     return figure
 
 

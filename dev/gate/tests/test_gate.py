@@ -11,7 +11,8 @@ from fptools.testing.common import TOP
 
 
 from dev.gate import gate
-from dev.gate.gate import MODULES, Part, Place, Sum, counted, interpreter, parts, run_part
+from dev.gate.gate import Place, Sum, counted, interpreter, run_part
+from dev.gate.parts import MODULES, Part, parts
 
 SCRIPT = Part("script", ["x"])
 TESTS = Part("tests", ["x"], tests="tools/fptools")

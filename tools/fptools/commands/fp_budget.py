@@ -111,6 +111,15 @@ def run_cycles(text: str) -> int:
     return number
 
 
+def add_limits(parser: Parser) -> None:
+    """Adds the options for what a section of names may take, and what is assumed."""
+    most = parser.add_mutually_exclusive_group()
+    most.add_argument("--cycles", type=int, metavar="N", help="the most cycles that it may take")
+    most.add_argument("--ns", type=int, metavar="N", help="the most nanoseconds that it may take")
+    words = [it.value for it in Assumption]
+    parser.add_argument("--assume", action="append", default=[], choices=words, metavar="WORDS", help=f"one of {words}")
+
+
 def parser_of() -> Parser:
     parser = new_parser(__doc__)
     add = parser.add_argument
@@ -126,11 +135,7 @@ def parser_of() -> Parser:
     parser.flag("--all", "answer for all hard threads: periods, stacks and budgets")
     add("--from-label", metavar="A", help="a section's first address: a number, NAME or NAME+NUMBER")
     add("--to-label", metavar="A", help="the address behind its last")
-    most = parser.add_mutually_exclusive_group()
-    most.add_argument("--cycles", type=int, metavar="N", help="the most cycles that it may take")
-    most.add_argument("--ns", type=int, metavar="N", help="the most nanoseconds that it may take")
-    words = [it.value for it in Assumption]
-    add("--assume", action="append", default=[], choices=words, metavar="WORDS", help=f"one of {words}")
+    add_limits(parser)
     add("--runs", type=run_cycles, metavar="N", help="run each thread for N cycles, and compare the executions too")
     parser.flag("--path", "show where the bound goes: by function, line and loop")
     parser.flag("--json", "write the results as a JSON document")

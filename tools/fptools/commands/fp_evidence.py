@@ -35,7 +35,7 @@ import sys
 import tempfile
 from pathlib import Path
 from subprocess import SubprocessError
-from typing import Any
+
 
 from fptools.commands.common import failed, new_parser
 from fptools.budget.files import Result, ValidationError, Verdict, fault_text, read_budgets
@@ -63,6 +63,7 @@ from fptools.budget.reports import data_of
 from fptools.files.setup import Setup
 from fptools.files.sources import Sources
 from fptools.stack.reports import stack_fields
+from fptools.untyped import Values
 
 NAME = "fp_evidence"
 MARK = "evidence.json"
@@ -167,7 +168,7 @@ def command_of(asked: argparse.Namespace) -> str:
 def as_json(evidence: Evidence) -> bytes:
     """The answers and their origin."""
     origin = evidence.origin
-    document: dict[str, Any] = {
+    document: Values = {
         "commit": origin.commit,
         "changes": list(origin.changes),
         "kit": origin.kit,

@@ -36,7 +36,7 @@ import json
 import sys
 from dataclasses import replace
 from pathlib import Path
-from typing import Any
+
 
 from fptools.commands.common import Parser, failed, let_reader_go, new_parser
 from fptools.program.status import CANNOT
@@ -68,6 +68,7 @@ from fptools.files.setup import Setup, spelled
 from fptools.files.sources import Sources
 from fptools.limits import MOST_CYCLES
 from fptools.visits.visits import Watched
+from fptools.untyped import Values
 
 NAME = "fp_visits"
 BROKE, BROKEN_TRACE = 1, 3
@@ -83,6 +84,18 @@ def cycles(text: str) -> int:
     if not 0 <= number <= MOST_CYCLES:
         raise ValueError
     return number
+
+
+def add_sections(parser: Parser) -> None:
+    """Adds the options that name sections, and what is known of them."""
+    parser.path("--budgets", "sections and their budgets, as fp_budget reads them", "FILE")
+    parser.many("--section", "[NAME=]A:B", "the section from A up to below B")
+    parser.many("--function", "A", "the function at this address")
+    parser.path("--elf", "the executable that the image was made of, for names and functions")
+    parser.path("--map", "the map of the source that it was made of (flexpret asm --map), for names", "FILE")
+    parser.flag("--calls", "the sections of --section call functions of the executable")
+    parser.path("--routines", "they call these: lines of a first and a last word, as for the command calls", "FILE")
+    parser.flag("--no-bounds", "don't ask the program for bounds")
 
 
 def parse() -> argparse.Namespace:
@@ -104,14 +117,7 @@ def parse() -> argparse.Namespace:
     )
     add("--cycles", type=cycles, metavar="N", help="run the setup for N cycles")
     parser.thread("the thread, 0 to 7; left out, those of the budgets, or the only one")
-    parser.path("--budgets", "sections and their budgets, as fp_budget reads them", "FILE")
-    parser.many("--section", "[NAME=]A:B", "the section from A up to below B")
-    parser.many("--function", "A", "the function at this address")
-    parser.path("--elf", "the executable that the image was made of, for names and functions")
-    parser.path("--map", "the map of the source that it was made of (flexpret asm --map), for names", "FILE")
-    parser.flag("--calls", "the sections of --section call functions of the executable")
-    parser.path("--routines", "they call these: lines of a first and a last word, as for the command calls", "FILE")
-    parser.flag("--no-bounds", "don't ask the program for bounds")
+    add_sections(parser)
     add("--from", dest="start", type=cycles, default=0, metavar="C", help="events from this cycle on")
     add("--to", dest="end", type=cycles, metavar="C", help="events before this cycle; the rest isn't read")
     parser.flag("--json", "write JSON")
@@ -325,7 +331,7 @@ def write(asked: Asked, seen: list[Observation], status: int, periods: list[Resu
     if asked.options.csv:
         print(as_csv(seen), end="")
     elif asked.options.json:
-        document: dict[str, Any] = {
+        document: Values = {
             "setup": str(asked.options.setup) if asked.options.setup else None,
             "threads": [as_data(it, text) for it in seen],
             "status": status,
