@@ -1,27 +1,13 @@
-"""The built program: its place, its statuses, and their lines on standard error."""
-import enum
+"""The built program: its place, and the lines of its statuses on standard error."""
 import sys
 from pathlib import Path
+
+from fptools.program.status import Status
 
 TOP = Path(__file__).resolve().parent.parent
 BUILT = TOP / 'crates/flexpret_cli/out/flexpret_cli'
 BUILT_BY_RATTLE = BUILT.with_name('flexpret_cli.by-rattle')
 """The second build of it that rt ci leaves, by the other compiler."""
-
-
-class Status(enum.IntEnum):
-    """The exit statuses; there is no other."""
-    OK = 0
-    DIFFERS = 1
-    USAGE = 2
-    SETUP = 3
-    IMAGE = 4
-    SOURCE = 5
-    BOUND = 6
-    READ = 7
-    WRITE = 8
-    NO_MEMORY = 9
-    ROUTINES = 10
 
 
 COMPLAINTS: dict[int, bytes] = {

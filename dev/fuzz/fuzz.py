@@ -24,7 +24,8 @@ from types import FrameType
 from typing import Any
 
 from dev.fuzz.hostile import COMMANDS, Corpus, Hostile, Line, corpus
-from dev.program import TOP, Status, built_program, complaint
+from dev.program import TOP, built_program, complaint
+from fptools.program.status import Status
 
 MODEL = TOP / 'model'
 """The repository's executable model."""

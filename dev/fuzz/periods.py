@@ -144,6 +144,12 @@ class Code:
             self.plain()
         self.add("wu x11, x10")
 
+    def wait_in_work(self) -> None:
+        """A wait with work around it."""
+        self.work(1)
+        self.wait()
+        self.work(1)
+
 
 def assembler(random: Random, ns: int) -> str:
     """A program whose loop waits at its end, at its start, in its middle, in a case, or in one of
@@ -167,19 +173,13 @@ def assembler(random: Random, ns: int) -> str:
     if shape == 3:  # one of two waits
         code.work(1)
         code.add("lw x16, 0(x15)", "andi x16, x16, 1", "beq x16, x0, other")
-        code.work(1)
-        code.wait()
-        code.work(1)
+        code.wait_in_work()
         code.add("j head", "other: addi x0, x0, 0")
-        code.work(1)
-        code.wait()
-        code.work(1)
+        code.wait_in_work()
     if shape == 4:  # waits in an inner loop, with work around it
         code.work(1)
         code.add("addi x26, x0, 3", "inner: addi x0, x0, 0")
-        code.work(1)
-        code.wait()
-        code.work(1)
+        code.wait_in_work()
         code.add("addi x26, x26, -1", "bne x26, x0, inner")
         code.work(1)
     if shape == 5:

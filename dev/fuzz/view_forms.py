@@ -349,6 +349,11 @@ def wrong_svg(shown: str, window: Window, texts: Texts) -> Wrong:
     yield from differs('svg boxes', len(boxes), len(wanted))
     for box, want in zip(boxes, wanted):
         yield from differs('svg box', box, want)
+    yield from wrong_frame(root, space, window, cells)
+
+
+def wrong_frame(root: ElementTree.Element, space: str, window: Window, cells: dict[int, Cycle]) -> Wrong:
+    """What is wrong around the boxes of a picture: slots, numbers, lines and the size."""
     written = [(int(node.get('x', '')), int(node.get('y', '')), node.text) for node in root.iter(f'{space}text')]
     slots = [(x + 3, 47, cycle.slot().removeprefix('T')) for x, cycle in cells.items()]
     yield from differs('svg slots', [text for text in written if text[1] == 47 and text[0] >= LEFT], slots)

@@ -16,7 +16,8 @@ from dataclasses import dataclass, field
 from pathlib import Path
 from typing import IO
 
-from dev.program import BUILT_BY_RATTLE, TOP, Status, built_program, complaint
+from dev.program import BUILT_BY_RATTLE, TOP, built_program, complaint
+from fptools.program.status import Status
 
 SECONDS = 20
 """A call that takes longer is a fault."""

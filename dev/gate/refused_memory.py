@@ -11,7 +11,8 @@ from collections.abc import Iterator
 from dataclasses import dataclass, field
 from pathlib import Path
 
-from dev.program import TOP, Status, built_program, complaint
+from dev.program import TOP, built_program, complaint
+from fptools.program.status import Status
 from dev.gate.tables import cases
 
 SECONDS = 3600

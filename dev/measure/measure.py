@@ -16,7 +16,8 @@ from datetime import date
 from pathlib import Path
 
 from dev.measure import inputs
-from dev.program import TOP, Status, built_program
+from dev.program import TOP, built_program
+from fptools.program.status import Status
 
 PAGE = TOP / 'docs/dev/MEASUREMENTS.md'
 BEGIN, END = '<!-- measure.py -->', '<!-- end of measure.py -->'

@@ -159,12 +159,14 @@ def build(kit: Path, module: Path, program: Path) -> None:
     libraries = [str(kit / 'c' / name) for name in ('libos_c.a', 'liblibc_c.a')]
     with tempfile.TemporaryDirectory() as made:
         plain, marked, code = (str(Path(made) / name) for name in ('plain.ll', 'marked.ll', 'code.o'))
-        run([clang, '-S', '-emit-llvm', '-x', 'ir', str(module), '-Xclang', '-disable-llvm-passes', '-o', plain])
+        shown = '-S -emit-llvm -x ir -Xclang -disable-llvm-passes'.split()
+        run([clang, *shown, str(module), '-o', plain])
         lines = Path(plain).read_text().split('\n')
         Path(marked).write_text(''.join(f'{line}\n' for line in with_places(lines)))
-        run([clang, f'--target={TARGET}', f'--sysroot={tools}', *OPTIONS, '-c', '-x', 'ir', marked, '-o', code])
-        link = [str(kit / 'bin/rattle-link'), '--target', TARGET, '--toolchain', str(tools), '-o', str(program)]
-        run([*link, code, *libraries])
+        compiled = [f'--target={TARGET}', f'--sysroot={tools}', *OPTIONS, *'-c -x ir'.split()]
+        run([clang, *compiled, marked, '-o', code])
+        link = [str(kit / 'bin/rattle-link'), '--target', TARGET, '--toolchain', str(tools)]
+        run([*link, '-o', str(program), code, *libraries])
 
 
 def run(command: Sequence[str]) -> None:

@@ -146,19 +146,20 @@ def print_table(tried: list[Tried]) -> None:
 
 def parsed() -> argparse.Namespace:
     parser = argparse.ArgumentParser(description=__doc__)
-    parser.add_argument('--seed', type=int, default=1)
-    parser.add_argument('--count', type=int, default=20, metavar='N', help='how many changes of the seed')
-    parser.add_argument('--crate', action='append', metavar='NAME', help='a crate to draw from, may be repeated (left out: all libraries)')
-    parser.add_argument('--only', action='append', metavar='NAME',
+    add = parser.add_argument
+    add('--seed', type=int, default=1)
+    add('--count', type=int, default=20, metavar='N', help='how many changes of the seed')
+    add('--crate', action='append', metavar='NAME', help='a crate to draw from, may be repeated (left out: all libraries)')
+    add('--only', action='append', metavar='NAME',
                         help='a crate whose changes are tried, may be repeated, in this order (left out: all that are drawn from)')
-    parser.add_argument('--resume', type=Path, metavar='FILE', help='the log: what it has is not tried again, and it gets the rest')
-    parser.add_argument('--jobs', type=int, default=1, metavar='N', help='how many crates at a time')
-    parser.add_argument('--seconds', type=float, default=SECONDS, metavar='S', help='the time of a check')
-    parser.add_argument('--alone', action='store_true', help='tries each change in a check of its own')
-    parser.add_argument('--rounds', type=int, metavar='N', help='how many rounds of a crate at most; a later call tries the rest')
-    parser.add_argument('--scratch', type=Path, metavar='DIR',
+    add('--resume', type=Path, metavar='FILE', help='the log: what it has is not tried again, and it gets the rest')
+    add('--jobs', type=int, default=1, metavar='N', help='how many crates at a time')
+    add('--seconds', type=float, default=SECONDS, metavar='S', help='the time of a check')
+    add('--alone', action='store_true', help='tries each change in a check of its own')
+    add('--rounds', type=int, metavar='N', help='how many rounds of a crate at most; a later call tries the rest')
+    add('--scratch', type=Path, metavar='DIR',
                         help='where the copies are made, some 2 GB each, and stay for the next call (left out: a folder that goes again)')
-    parser.add_argument('--list', action='store_true', help='shows the changes as diffs, and tries none')
+    add('--list', action='store_true', help='shows the changes as diffs, and tries none')
     return parser.parse_args()
 
 

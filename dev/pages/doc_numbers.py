@@ -227,49 +227,41 @@ def refusals(pages: Pages) -> Iterator[str]:
         yield from (f"{tables[0][1]}: {row} isn't in the code" for row in sorted(shown - code))
 
 
+LIMITS = (
+    ("COMMANDS.md", "at most {}; for `check`", "MOST_CYCLES"),
+    ("COMMANDS.md", "for `check` at most {}", "MOST_CHECKED_CYCLES"),
+    ("COMMANDS.md", "decimal digits, at most {}", "MOST_NUMBER"),
+    ("COMMANDS.md", "| 1 TooLong | `-` | more than {} bytes", "MOST_SETUP_BYTES"),
+    ("FORMATS.md", "document of at most {} bytes", "MOST_SETUP_BYTES"),
+    ("COMMANDS.md", "{} loops or", "MOST_LOOPS"),
+    ("COMMANDS.md", "{} inputs of a thread", "MOST_INPUTS"),
+    ("FORMATS.md", "at most {} tables | no | the loop", "MOST_LOOPS"),
+    ("FORMATS.md", "at most {} pairs", "MOST_INPUTS"),
+    ("FORMATS.md", "a source of at most {} bytes", "MOST_SOURCE_BYTES"),
+    ("dev/REFUSALS.md", "| more than {} bytes |\n| 2 Lex", "MOST_SOURCE_BYTES"),
+    ("dev/REFUSALS.md", "more than {} bytes | strip", "MOST_ELF_BYTES"),
+    ("dev/REFUSALS.md", "more than {} segments", "MOST_SEGMENTS"),
+    ("FORMATS.md", "number of segments, 0 to {}", "MOST_SEGMENTS"),
+    ("dev/REFUSALS.md", "more than {} lines", "MOST_ROUTINES"),
+    ("FORMATS.md", "has at most {} lines", "MOST_ROUTINES"),
+    ("FORMATS.md", "both scratchpads, {} or", "SMALL_SIZE"),
+    ("FORMATS.md", "or {} bytes; SIZE", "LARGE_SIZE"),
+    ("PROGRAMMING.md", "each scratchpad has {} bytes", "LARGE_SIZE"),
+    ("FORMATS.md", "pairs: a cycle, 0 to {}", "MOST_CYCLES"),
+    ("FORMATS.md", "integer, 0 to {} | no: never", "MOST_CYCLES"),
+)
+"""Limits that pages write with a comma between thousands: the page, its words, and the constant of the code."""
+
+
 def limits(pages: Pages) -> Iterator[str]:
-    """Limits, as the pages write them with a comma between thousands."""
-    code = pages.constants(
-        "MOST_CYCLES",
-        "MOST_CHECKED_CYCLES",
-        "MOST_NUMBER",
-        "MOST_SETUP_BYTES",
-        "MOST_SOURCE_BYTES",
-        "MOST_ELF_BYTES",
-        "MOST_INPUTS",
-        "MOST_LOOPS",
-        "MOST_ROUTINES",
-        "MOST_SEGMENTS",
-        "SMALL_SIZE",
-        "LARGE_SIZE",
-        "DEEPEST",
-    )
+    """Limits, as the pages write them."""
+    code = pages.constants(*{name for _, _, name in LIMITS}, "MOST_COLUMNS", "DEEPEST")
     wanted = [
-        ("COMMANDS.md", "at most {}; for `check`", code["MOST_CYCLES"]),
-        ("COMMANDS.md", "for `check` at most {}", code["MOST_CHECKED_CYCLES"]),
-        ("COMMANDS.md", "decimal digits, at most {}", code["MOST_NUMBER"]),
-        ("COMMANDS.md", "| 1 TooLong | `-` | more than {} bytes", code["MOST_SETUP_BYTES"]),
-        ("FORMATS.md", "document of at most {} bytes", code["MOST_SETUP_BYTES"]),
-        ("COMMANDS.md", "{} loops or", code["MOST_LOOPS"]),
-        ("COMMANDS.md", "{} inputs of a thread", code["MOST_INPUTS"]),
-        ("FORMATS.md", "at most {} tables | no | the loop", code["MOST_LOOPS"]),
-        ("FORMATS.md", "at most {} pairs", code["MOST_INPUTS"]),
-        ("FORMATS.md", "a source of at most {} bytes", code["MOST_SOURCE_BYTES"]),
-        ("dev/REFUSALS.md", "| more than {} bytes |\n| 2 Lex", code["MOST_SOURCE_BYTES"]),
-        ("dev/REFUSALS.md", "more than {} bytes | strip", code["MOST_ELF_BYTES"]),
-        ("dev/REFUSALS.md", "more than {} segments", code["MOST_SEGMENTS"]),
-        ("FORMATS.md", "number of segments, 0 to {}", code["MOST_SEGMENTS"]),
-        ("dev/REFUSALS.md", "more than {} lines", code["MOST_ROUTINES"]),
-        ("FORMATS.md", "has at most {} lines", code["MOST_ROUTINES"]),
-        ("FORMATS.md", "both scratchpads, {} or", code["SMALL_SIZE"]),
-        ("FORMATS.md", "or {} bytes; SIZE", code["LARGE_SIZE"]),
-        ("PROGRAMMING.md", "each scratchpad has {} bytes", code["LARGE_SIZE"]),
+        *((page, words, code[name]) for page, words, name in LIMITS),
         ("dev/REFUSALS.md", "more than {} bytes, or", MOST_IMAGE_BYTES[SMALL]),
         ("dev/REFUSALS.md", "bytes, or {} with", MOST_IMAGE_BYTES[LARGE]),
-        ("FORMATS.md", "pairs: a cycle, 0 to {}", code["MOST_CYCLES"]),
-        ("FORMATS.md", "integer, 0 to {} | no: never", code["MOST_CYCLES"]),
         ("VIEW.md", "`to` is at most {}", code["MOST_CYCLES"] - 3),
-        ("VIEW.md", "at most {} cycles", pages.constants("MOST_COLUMNS")["MOST_COLUMNS"]),
+        ("VIEW.md", "at most {} cycles", code["MOST_COLUMNS"]),
     ]
     for page, words, value in wanted:
         if words.format(f"{value:,}") not in pages.text(page):

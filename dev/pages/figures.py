@@ -19,6 +19,8 @@ from pathlib import Path
 
 from dev.program import TOP
 
+from fptools.svg import element, picture, written
+
 from model.registers import Regions
 from model.setups import Setup, read_setup
 
@@ -51,13 +53,15 @@ class Figure:
 
     def text(self, x: float, y: float, words: str, kind: str = "") -> None:
         """Writes a text with its baseline at y."""
-        self.parts.append(f'<text x="{x:g}" y="{y:g}" class="{kind}">{escape(words)}</text>')
+        self.parts.append(written(words, x=x, y=y, class_=kind))
 
     def box(self, x: float, y: float, width: float, height: float, fill: str) -> None:
         """Draws a box."""
-        self.parts.append(
-            f'<rect x="{x:g}" y="{y:g}" width="{width:g}" height="{height:g}" fill="{fill}" stroke="#666"/>'
-        )
+        self.parts.append(element("rect", x=x, y=y, width=width, height=height, fill=fill, stroke="#666"))
+
+    def line(self, start: tuple[float, float], end: tuple[float, float], kind: str) -> None:
+        """Draws a line."""
+        self.parts.append(element("line", x1=start[0], y1=start[1], x2=end[0], y2=end[1], class_=kind))
 
     def labelled(self, x: float, y: float, size: tuple[float, float], fill: str, words: str) -> None:
         """Draws a box with a text in its middle."""
@@ -68,27 +72,26 @@ class Figure:
         """Draws an arrow along points."""
         way = " ".join(f"{'L' if index else 'M'}{x:g},{y:g}" for index, (x, y) in enumerate(points))
         head = {"r": "red", "w": "green"}.get(kind, "black")
-        self.parts.append(f'<path d="{way}" class="{kind}" marker-end="url(#{head})"/>')
+        self.parts.append(element("path", d=way, class_=kind, marker_end=f"url(#{head})"))
 
     def svg(self) -> str:
         """The whole file."""
-        heads = "".join(
-            f'<marker id="{name}" markerWidth="8" markerHeight="8" refX="7" refY="4" orient="auto" markerUnits="userSpaceOnUse">'
-            f'<path d="M0,0 L8,4 L0,8 z" style="fill:{colour};stroke:none"/></marker>'
+        size = {"markerWidth": 8.0, "markerHeight": 8.0, "refX": 7.0, "refY": 4.0}
+        form = {"orient": "auto", "markerUnits": "userSpaceOnUse"}
+        heads = (
+            element("marker", element("path", d="M0,0 L8,4 L0,8 z", style=f"fill:{colour};stroke:none"), id=name, **size, **form)
             for name, colour in (("black", "#444"), ("red", "#d62728"), ("green", "#2ca02c"))
         )
-        return "\n".join(
-            [
-                f'<svg xmlns="http://www.w3.org/2000/svg" width="{self.width}" height="{self.height}" '
-                f'viewBox="0 0 {self.width} {self.height}" role="img">',
-                f"<title>{escape(self.title)}</title>",
-                STYLE,
-                f"<defs>{heads}</defs>",
-                '<rect width="100%" height="100%" fill="#fff"/>',
-                *self.parts,
-                "</svg>",
-                "",
-            ]
+        return picture(
+            element("title", escape(self.title)),
+            STYLE,
+            element("defs", *heads),
+            element("rect", width="100%", height="100%", fill="#fff"),
+            *self.parts,
+            width=self.width,
+            height=self.height,
+            viewBox=f"0 0 {self.width} {self.height}",
+            role="img",
         )
 
 
@@ -131,6 +134,18 @@ entry = 0
 """
 
 
+FORWARDS = ((0, 2, 1, 1, 0), (1, 3, 3, 1, 0), (3, 2, 4, 1, 0), (4, 2, 7, 0, 14))
+"""The arrows of the pipeline: a row and a stage, the row and stage that they lead to, and how far right they begin."""
+
+PIPELINE_NOTES = (
+    "Green: a value is forwarded to D, from E or, for a load, from M."
+    " The load's value is late, so the turn of cycle 2 is lost.",
+    "Red: the taken branch redirects fetch when it is in E."
+    " The turns of the cycles 5 and 6 are lost: the lag is 3.",
+    "A thread whose slots are three or more cycles apart loses no turn.",
+)
+
+
 def pipeline() -> Figure:
     """The five stages over the cycles of a short program of a thread with all slots."""
     with tempfile.TemporaryDirectory() as name:
@@ -158,27 +173,12 @@ def pipeline() -> Figure:
     def centre(row: int, stage: int) -> tuple[float, float]:
         return left + (row + stage + 0.5) * wide, above + row * high + (high - 4) / 2
 
-    for producer, stage, consumer in ((0, 2, 1), (1, 3, 3), (3, 2, 4)):
+    for producer, stage, consumer, consumed, side in FORWARDS:
         x, y = centre(producer, stage)
-        to_x, to_y = centre(consumer, 1)
-        figure.arrow([(x, y + 11), (to_x, to_y - 11)], "w")
-    x, y = centre(4, 2)
-    to_x, to_y = centre(7, 0)
-    figure.arrow([(x + 14, y + 11), (to_x, to_y - 11)], "r")
-    y = above + 8.0 * high + 18
-    figure.text(
-        10,
-        y,
-        "Green: a value is forwarded to D, from E or, for a load, from M. The load's value is late, so the turn of cycle 2 is lost.",
-        "s",
-    )
-    figure.text(
-        10,
-        y + 18,
-        "Red: the taken branch redirects fetch when it is in E. The turns of the cycles 5 and 6 are lost: the lag is 3.",
-        "s",
-    )
-    figure.text(10, y + 36, "A thread whose slots are three or more cycles apart loses no turn.", "s")
+        to_x, to_y = centre(consumer, consumed)
+        figure.arrow([(x + side, y + 11), (to_x, to_y - 11)], "r" if side else "w")
+    for row, words in enumerate(PIPELINE_NOTES):
+        figure.text(10, above + 8.0 * high + 18 * (row + 1), words, "s")
     return figure
 
 
@@ -199,12 +199,12 @@ def frame() -> Figure:
         slot = slots[cycle % 4]
         if cycle % 4 == 0:
             figure.text(x + wide / 2, 20, str(cycle), "c s")
-            figure.parts.append(f'<line x1="{x}" y1="26" x2="{x}" y2="112" class="g"/>')
+            figure.line((x, 26), (x, 112), "g")
         figure.text(x + wide / 2, 46, slot, "c s")
         donated = slot[0] == "T" and slot != thread
         figure.labelled(x, 60, (wide - 2, 30), YELLOW if donated else BLUE if slot != "S" else GREEN, thread)
     asleep = [66 + (cycle - first) * wide for cycle in (53, 68)]
-    figure.parts.append(f'<line x1="{asleep[0]}" y1="104" x2="{asleep[1]}" y2="104" class="r"/>')
+    figure.line((asleep[0], 104), (asleep[1], 104), "r")
     figure.text(sum(asleep) / 2, 122, "T0 sleeps until 680 ns, which is cycle 68", "c s")
     figure.text(
         8,

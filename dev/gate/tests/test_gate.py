@@ -11,7 +11,8 @@ from fptools.testing.common import TOP
 
 
 from dev.gate import gate
-from dev.gate.gate import MODULES, Part, Place, Sum, counted, interpreter, parts, run_part
+from dev.gate.gate import Place, Sum, counted, interpreter, run_part
+from dev.gate.parts import MODULES, Part, parts
 
 SCRIPT = Part("script", ["x"])
 TESTS = Part("tests", ["x"], tests="tools/fptools")
@@ -22,6 +23,7 @@ TESTS = Part("tests", ["x"], tests="tools/fptools")
     [
         (SCRIPT, 0, "", "1 passed, 0 failed"),
         (SCRIPT, 1, "wrong", "0 passed, 1 failed"),
+        (SCRIPT, 0, "SKIPPED [1] a.py: black is not 1.0\n", "0 passed, 0 failed, 1 skipped"),
         (SCRIPT, 0, "as shown: a\nas shown: b\n", "2 passed, 0 failed"),
         (SCRIPT, 1, "as shown: a\ndiffers: b\n", "1 passed, 1 failed"),
         (SCRIPT, 1, "as shown: a\nkilled\n", "1 passed, 1 failed"),

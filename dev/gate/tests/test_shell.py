@@ -11,8 +11,6 @@ from dev.gate.tests.test_types import pinned
 SHELLCHECK = "0.9.0"
 """The version of Debian 12."""
 
-BASH = ("#!/usr/bin/env bash", "# shellcheck shell=bash")
-
 
 def scripts() -> list[str]:
     """The repository's scripts of bash, by their names at the top."""

@@ -9,6 +9,7 @@ import tomllib
 from pathlib import Path
 
 import pytest
+from dev.gate.parts import parts
 from fptools.testing.common import TOP, document
 
 
@@ -132,8 +133,8 @@ def test_the_region_in_the_first_program() -> None:
 
 
 def test_the_gate_runs_the_model() -> None:
-    page, gate = (TOP / "model/README.md").read_text(), (TOP / "dev/gate/gate.py").read_text()
-    assert "'-m', 'model.tables.check'" in gate and "pytest('model', 'model', 1)" in gate
+    page, last = (TOP / "model/README.md").read_text(), {it.name: it.command[-1] for it in parts(1)}
+    assert (last["tables of the model"], last["model"]) == ("model.tables.check", "model")
     assert "The gate runs its tests" in page and "--model" in page
 
 

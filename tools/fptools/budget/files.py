@@ -4,11 +4,12 @@ from __future__ import annotations
 from dataclasses import dataclass
 from enum import Enum, IntEnum
 from pathlib import Path
-from typing import TYPE_CHECKING, Any, Mapping
+from typing import TYPE_CHECKING
 
 from fptools import require
 from fptools.files.setup import spelled
 from fptools.files.toml import faults, read_toml
+from fptools.untyped import Values
 
 require("jsonschema")
 
@@ -140,7 +141,7 @@ def fault_text(fault: Exception, budgets: Path | None) -> str:
     return str(fault)
 
 
-def _budget(table: Mapping[str, Any], period: int) -> Budget:
+def _budget(table: Values, period: int) -> Budget:
     cycles = table["cycles"] if "cycles" in table else table["ns"] // period
     if "period" in table:
         assume = frozenset(map(Assumption, table.get("assume", [])))

@@ -6,7 +6,7 @@ import copy
 import json
 from dataclasses import dataclass, replace
 from pathlib import Path
-from typing import Any, Mapping
+from typing import Mapping
 
 from fptools.budget.files import Assumption, Budget, LoopFact, Result, Verdict
 from fptools.budget.budgets import Asked, Judge, Unknown
@@ -18,6 +18,7 @@ from fptools.code.section import Section
 from fptools.files.setup import Setup
 from fptools.files.sources import Sources
 from fptools.isa.words import Flow, Word
+from fptools.untyped import Values
 
 MOST_LOOPS = 256
 
@@ -67,7 +68,7 @@ class Names:
             calls = {put: function.start}
         written = self.folder / "own.fpx"
         written.write_bytes(write_image(image))
-        values: dict[str, Any] = {**self.setup.values, "image": str(written)}
+        values: Values = {**self.setup.values, "image": str(written)}
         setup, is_of_function = replace(self.setup, values=values), function is not None
         judge = Judge(
             self.flexpret, setup, image, program, self.sources, calls, is_of_function, self.has_paths
@@ -162,7 +163,7 @@ def jump_and_link(pc: int, target: int) -> int:
     return word
 
 
-def toml_of(values: Mapping[str, Any]) -> str:
+def toml_of(values: Values) -> str:
     """A setup as a TOML document: numbers, texts, truth values and lists, and lists of tables of them."""
     plain = {key: value for key, value in values.items() if not _is_tables(value)}
     lines = [f"{key} = {json.dumps(value)}" for key, value in plain.items() if value != []]

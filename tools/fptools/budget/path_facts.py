@@ -3,12 +3,13 @@ from __future__ import annotations
 
 from collections import Counter
 from dataclasses import dataclass, replace
-from typing import Any, Iterator, Mapping
+from typing import Iterator, Mapping
 
 from fptools.files.elf import Program
 from fptools.budget.paths import Search, Step
 from fptools.files.setup import LoopTable
 from fptools.files.sources import Sources
+from fptools.untyped import Values
 
 MOST_LINES = 12
 """Lines that a text has; the others are summed."""
@@ -139,7 +140,7 @@ def _row(cycles: int, of: int, times: str, text: str) -> str:
     return f"{cycles:>11,} {100 * cycles / of:>5.1f}% {times:>7}  {text}"
 
 
-def path_fields(facts: PathFacts) -> dict[str, Any]:
+def path_fields(facts: PathFacts) -> Values:
     """The path as JSON has it."""
     if facts.why_not:
         return {"why_not": facts.why_not}

@@ -3,13 +3,14 @@ from __future__ import annotations
 
 import json
 import re
-from typing import Any, Sequence
+from typing import Sequence
 from xml.etree import ElementTree
 
 from fptools.budget.files import Result, Verdict
 from fptools.budget.path_facts import path_fields
 from fptools.stack.reports import stack_fields
 from fptools.stack.stacks import Stack
+from fptools.untyped import Values
 
 NOT_XML = re.compile("[^\t\n\r -\ud7ff\ue000-\ufffd\U00010000-\U0010ffff]")
 
@@ -66,18 +67,18 @@ def _add_numbers(case: ElementTree.Element, result: Result) -> None:
 
 
 def as_json(
-    results: list[Result], fault: str | None = None, threads: list[dict[str, Any]] | None = None
+    results: list[Result], fault: str | None = None, threads: list[Values] | None = None
 ) -> str:
     """The results as a JSON document: `bound`, `budget` and `slack` are cycles, `ns` is the bound's time. With the answers
     for threads, if they are asked for."""
-    document: dict[str, Any] = {} if threads is None else {"threads": threads}
+    document: Values = {} if threads is None else {"threads": threads}
     document["results"] = [data_of(result) for result in results]
     if fault is not None:
         document["error"] = fault
     return json.dumps(document, indent=2, ensure_ascii=False)
 
 
-def data_of(result: Result) -> dict[str, Any]:
+def data_of(result: Result) -> Values:
     """A result as a table of a JSON document."""
     budget = result.budget
     return {

@@ -160,8 +160,3 @@ def budgets_beside(setup: Path) -> Path | None:
     """The file of budgets next to a setup, if there is one."""
     path = setup.parent / BUDGETS
     return path if path.is_file() else None
-
-
-def verdict_of(threads: Sequence[ThreadAnswer]) -> Verdict:
-    """The verdict on all of it."""
-    return max((it.verdict for it in threads), default=Verdict.UNKNOWN)

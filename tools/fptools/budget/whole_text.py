@@ -2,12 +2,13 @@
 from __future__ import annotations
 
 from collections import Counter
-from typing import Any, Iterator, Sequence
+from typing import Iterator, Sequence
 
 from fptools.budget.files import Result
 from fptools.stack.reports import stack_fields
 from fptools.stack.stacks import Stack
 from fptools.budget.whole import ThreadAnswer
+from fptools.untyped import Values
 
 NONE = "-"
 NO_LOOP = "no loop waits"
@@ -73,7 +74,7 @@ def counted(results: Sequence[Result]) -> str:
     return ", ".join(f"{number} {word}" for word, number in count.items()) or NONE
 
 
-def threads_fields(threads: Sequence[ThreadAnswer]) -> list[dict[str, Any]]:
+def threads_fields(threads: Sequence[ThreadAnswer]) -> list[Values]:
     """The threads as JSON has them: `slots` are its own in a frame of `frame` cycles, `load` is
     the share of them that its period's bound needs."""
     return [

@@ -10,10 +10,10 @@ was made of the executable. A source that is newer than its map is reported. Exi
 address isn't known, the image is of another executable, or a file can't be read."""
 from __future__ import annotations
 
-import argparse
 import sys
 from pathlib import Path
 
+from fptools.commands.common import failed, new_parser
 from fptools.files.elf import Program, ProgramError
 from fptools.files.image import ImageError, read_image
 from fptools.files.labels import named_by
@@ -52,18 +52,14 @@ def look_at_map(program: Program) -> None:
 
 
 def main() -> int:
-    parser = argparse.ArgumentParser(
-        prog=NAME, description=__doc__, formatter_class=argparse.RawDescriptionHelpFormatter
-    )
+    parser = new_parser(__doc__, NAME)
     parser.add_argument(
         "address", nargs="+", metavar="ADDRESS", help="a number, NAME or NAME+NUMBER"
     )
-    parser.add_argument("--elf", type=Path, metavar="FILE", help="the executable")
-    parser.add_argument("--map", type=Path, metavar="FILE", help="a map that fp_asm wrote")
-    parser.add_argument("--setup", type=Path, metavar="SETUP", help="the setup whose image has the names")
-    parser.add_argument(
-        "--routines", type=Path, metavar="FILE", help="write the functions that the section reaches"
-    )
+    parser.path("--elf", "the executable", "FILE")
+    parser.path("--map", "a map that fp_asm wrote", "FILE")
+    parser.path("--setup", "the setup whose image has the names", "SETUP")
+    parser.path("--routines", "write the functions that the section reaches", "FILE")
     asked = parser.parse_args()
     try:
         program = named_by(asked.elf, asked.map)
@@ -77,8 +73,7 @@ def main() -> int:
                 raise ProgramError("--routines needs --elf, and the two addresses of a section")
             write_routines(asked.routines, program, *addresses)
     except (OSError, ProgramError) as fault:
-        print(f"{NAME}: {fault}", file=sys.stderr)
-        return 2
+        return failed(NAME, fault)
     for address in addresses:
         print(f"{address:#010x}")
     return 0

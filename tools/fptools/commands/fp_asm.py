@@ -11,13 +11,13 @@ image. Both files are written whole or not at all. Exit status: 0; 2 where a fil
 written, the source has a fault, or the image has other words than the source."""
 from __future__ import annotations
 
-import argparse
 import os
 import sys
 import tempfile
 from pathlib import Path
 from typing import Iterable
 
+from fptools.commands.common import failed, new_parser
 from fptools.asm.places import SourceFault
 from fptools.asm.source import listing, map_lines, read_source
 from fptools.files.image import ImageError, read_image
@@ -52,13 +52,11 @@ def _umask() -> int:
 
 
 def main() -> int:
-    parser = argparse.ArgumentParser(
-        prog=NAME, description=__doc__, formatter_class=argparse.RawDescriptionHelpFormatter
-    )
-    parser.add_argument("source", type=Path, help="the assembly source")
-    parser.add_argument("image", type=Path, help="what the program made of it")
-    parser.add_argument("--listing", type=Path, metavar="FILE", help="where the listing is written")
-    parser.add_argument("--map", type=Path, metavar="FILE", help="where the map of addresses is written")
+    parser = new_parser(__doc__, NAME)
+    parser.path("source", "the assembly source")
+    parser.path("image", "what the program made of it")
+    parser.path("--listing", "where the listing is written", "FILE")
+    parser.path("--map", "where the map of addresses is written", "FILE")
     asked = parser.parse_args()
     try:
         source = read_source(asked.source)
@@ -69,9 +67,7 @@ def main() -> int:
         if asked.map:
             write(asked.map, map_lines(source, asked.map.parent))
     except SourceFault as fault:
-        print(f"{NAME}: {asked.source}:{fault.line}: {fault.code.name}", file=sys.stderr)
-        return 2
+        return failed(NAME, f"{asked.source}:{fault.line}: {fault.code.name}")
     except (OSError, ImageError) as fault:
-        print(f"{NAME}: {fault}", file=sys.stderr)
-        return 2
+        return failed(NAME, fault)
     return 0

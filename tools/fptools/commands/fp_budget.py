@@ -78,6 +78,7 @@ import tempfile
 from pathlib import Path
 from typing import Mapping, NoReturn, Sequence
 
+from fptools.commands.common import Parser, failed, new_parser
 from fptools.budget.files import (
     Assumption, Budget, PeriodOf, Result, ValidationError, Verdict, fault_text, read_budgets,
 )  # fmt: skip
@@ -110,52 +111,36 @@ def run_cycles(text: str) -> int:
     return number
 
 
-def parser_of() -> argparse.ArgumentParser:
-    parser = argparse.ArgumentParser(
-        description=__doc__, formatter_class=argparse.RawDescriptionHelpFormatter
-    )
-    add = parser.add_argument
-    add(
-        "file",
-        type=Path,
-        help="the setup, whose image is sought as the program seeks it; with --setup the executable",
-    )
-    add("budgets", type=Path, nargs="?", help="the budgets; with --setup only by --all, or alone")
-    add("--elf", type=Path, help="the executable that the image was made of, for names and functions")
-    add("--src", type=Path, metavar="DIR", help="where the sources are, if not where they were compiled")
-    add("--setup", type=Path, help="the setup, for a bound from names alone")
-    add("--thread", type=int, choices=range(8), metavar="I", help="the thread that runs it")
-    add(
-        "--function",
-        action="append",
-        default=[],
-        metavar="NAME",
-        help="a function; may be given several times",
-    )
-    add(
-        "--period",
-        action="store_true",
-        help="the period of each loop that waits, from the moment of a wait to the issue of the next one; "
-        "with --function of that function's loop; --ns is what lies between two moments",
-    )
-    add("--all", action="store_true", help="answer for all hard threads: periods, stacks and budgets")
-    add("--from-label", metavar="A", help="a section's first address: a number, NAME or NAME+NUMBER")
-    add("--to-label", metavar="A", help="the address behind its last")
+def add_limits(parser: Parser) -> None:
+    """Adds the options for what a section of names may take, and what is assumed."""
     most = parser.add_mutually_exclusive_group()
     most.add_argument("--cycles", type=int, metavar="N", help="the most cycles that it may take")
     most.add_argument("--ns", type=int, metavar="N", help="the most nanoseconds that it may take")
     words = [it.value for it in Assumption]
-    add("--assume", action="append", default=[], choices=words, metavar="WORDS", help=f"one of {words}")
+    parser.add_argument("--assume", action="append", default=[], choices=words, metavar="WORDS", help=f"one of {words}")
+
+
+def parser_of() -> Parser:
+    parser = new_parser(__doc__)
+    add = parser.add_argument
+    parser.path("file", "the setup, whose image is sought as the program seeks it; with --setup the executable")
+    add("budgets", type=Path, nargs="?", help="the budgets; with --setup only by --all, or alone")
+    parser.path("--elf", "the executable that the image was made of, for names and functions")
+    parser.path("--src", "where the sources are, if not where they were compiled", "DIR")
+    parser.path("--setup", "the setup, for a bound from names alone")
+    parser.thread("the thread that runs it")
+    parser.many("--function", "NAME", "a function; may be given several times")
+    parser.flag("--period", "the period of each loop that waits, from the moment of a wait to the issue of the next one; "
+        "with --function of that function's loop; --ns is what lies between two moments")
+    parser.flag("--all", "answer for all hard threads: periods, stacks and budgets")
+    add("--from-label", metavar="A", help="a section's first address: a number, NAME or NAME+NUMBER")
+    add("--to-label", metavar="A", help="the address behind its last")
+    add_limits(parser)
     add("--runs", type=run_cycles, metavar="N", help="run each thread for N cycles, and compare the executions too")
-    add("--path", action="store_true", help="show where the bound goes: by function, line and loop")
-    add("--json", action="store_true", help="write the results as a JSON document")
-    add(
-        "--junit",
-        type=Path,
-        metavar="FILE",
-        help="write the results, or the fault, to FILE, as JUnit has them",
-    )
-    add("--flexpret", metavar="PROGRAM", help=HELP)
+    parser.flag("--path", "show where the bound goes: by function, line and loop")
+    parser.flag("--json", "write the results as a JSON document")
+    parser.path("--junit", "write the results, or the fault, to FILE, as JUnit has them", "FILE")
+    parser.add_argument("--flexpret", metavar="PROGRAM", help=HELP)
     return parser
 
 
@@ -167,7 +152,7 @@ def parse() -> argparse.Namespace:
     return asked
 
 
-def refuse(parser: argparse.ArgumentParser, asked: argparse.Namespace) -> None:
+def refuse(parser: Parser, asked: argparse.Namespace) -> None:
     """Ends the call where its words don't go together."""
     has_labels = asked.from_label is not None and asked.to_label is not None
     is_named = asked.function or asked.from_label or asked.to_label or asked.period
@@ -202,7 +187,7 @@ def refuse(parser: argparse.ArgumentParser, asked: argparse.Namespace) -> None:
             stop(parser, f"{name} {number} is less than 1")
 
 
-def stop(parser: argparse.ArgumentParser, why: str) -> NoReturn:
+def stop(parser: Parser, why: str) -> NoReturn:
     parser.error(why)
 
 
@@ -321,8 +306,7 @@ def write(
         if fault is None and (old := old_comment(asked)):
             print(f"fp_budget: {old}", file=sys.stderr)
     except (OSError, ValueError) as failure:
-        print(f"fp_budget: {failure}", file=sys.stderr)
-        return Verdict.UNKNOWN
+        return failed("fp_budget", failure, Verdict.UNKNOWN)
     verdicts = [*(it.verdict for it in found), *(it.verdict for it in stacks)]
     return max(verdicts, default=Verdict.UNKNOWN)
 

@@ -9,11 +9,9 @@ refuses its source. `flexpret disasm IMAGE` calls this. Exit status: 0; 2 where 
 is no image, or the image isn't made of the executable."""
 from __future__ import annotations
 
-import argparse
-import os
 import sys
-from pathlib import Path
 
+from fptools.commands.common import failed, let_reader_go, new_parser
 from fptools.asm.source import disassembled
 from fptools.files.elf import ProgramError
 from fptools.files.image import ImageError, read_image
@@ -23,12 +21,10 @@ NAME = "fp_disasm"
 
 
 def main() -> int:
-    parser = argparse.ArgumentParser(
-        prog=NAME, description=__doc__, formatter_class=argparse.RawDescriptionHelpFormatter
-    )
-    parser.add_argument("image", type=Path, help="the image that was disassembled")
-    parser.add_argument("--elf", type=Path, metavar="FILE", help="the executable that the image was made of")
-    parser.add_argument("--map", type=Path, metavar="FILE", help="the map of the source that it was made of")
+    parser = new_parser(__doc__, NAME)
+    parser.path("image", "the image that was disassembled")
+    parser.path("--elf", "the executable that the image was made of", "FILE")
+    parser.path("--map", "the map of the source that it was made of", "FILE")
     asked = parser.parse_args()
     try:
         words = read_image(asked.image)
@@ -39,8 +35,7 @@ def main() -> int:
             print(line)
         sys.stdout.flush()
     except BrokenPipeError:
-        os.dup2(os.open(os.devnull, os.O_WRONLY), sys.stdout.fileno())
+        let_reader_go()
     except (OSError, ImageError, ProgramError) as fault:
-        print(f"{NAME}: {fault}", file=sys.stderr)
-        return 2
+        return failed(NAME, fault)
     return 0

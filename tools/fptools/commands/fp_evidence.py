@@ -35,8 +35,9 @@ import sys
 import tempfile
 from pathlib import Path
 from subprocess import SubprocessError
-from typing import Any
 
+
+from fptools.commands.common import failed, new_parser
 from fptools.budget.files import Result, ValidationError, Verdict, fault_text, read_budgets
 from fptools.budget.runs import Runs
 from fptools.budget.budgets import Judge
@@ -62,6 +63,7 @@ from fptools.budget.reports import data_of
 from fptools.files.setup import Setup
 from fptools.files.sources import Sources
 from fptools.stack.reports import stack_fields
+from fptools.untyped import Values
 
 NAME = "fp_evidence"
 MARK = "evidence.json"
@@ -72,13 +74,11 @@ FAULTS = (
 
 
 def parse() -> argparse.Namespace:
-    parser = argparse.ArgumentParser(
-        prog=NAME, description=__doc__, formatter_class=argparse.RawDescriptionHelpFormatter
-    )
+    parser = new_parser(__doc__, NAME)
     add = parser.add_argument
     add("elf", type=Path, nargs="?", help="the executable that the image was made of")
-    add("--setup", type=Path, help="the setup, whose image is sought as the program seeks it")
-    add("--budgets", type=Path, help="the budgets, as fp_budget reads them")
+    parser.path("--setup", "the setup, whose image is sought as the program seeks it")
+    parser.path("--budgets", "the budgets, as fp_budget reads them")
     add("-o", dest="out", type=Path, metavar="FOLDER", help="the folder to write")
     add(
         "--runs",
@@ -86,15 +86,10 @@ def parse() -> argparse.Namespace:
         metavar="N",
         help="run each thread for N cycles, and compare the executions too",
     )
-    add(
-        "--src",
-        type=Path,
-        metavar="DIR",
-        help="where the sources are, if not where they were compiled",
-    )
+    parser.path("--src", "where the sources are, if not where they were compiled", "DIR")
     add("--title", help="the title of the page")
-    add("--read", action="store_true", help="write the checksums of the promises, and nothing else")
-    add("--flexpret", metavar="PROGRAM", help=HELP)
+    parser.flag("--read", "write the checksums of the promises, and nothing else")
+    parser.add_argument("--flexpret", metavar="PROGRAM", help=HELP)
     asked = parser.parse_args()
     if not asked.read:
         for name in ("elf", "setup", "budgets", "out"):
@@ -173,7 +168,7 @@ def command_of(asked: argparse.Namespace) -> str:
 def as_json(evidence: Evidence) -> bytes:
     """The answers and their origin."""
     origin = evidence.origin
-    document: dict[str, Any] = {
+    document: Values = {
         "commit": origin.commit,
         "changes": list(origin.changes),
         "kit": origin.kit,
@@ -254,6 +249,5 @@ def main() -> int:
         print(*results, sep="\n")
         sys.stdout.flush()
     except FAULTS as fault:
-        print(f"{NAME}: {fault_text(fault, asked.budgets)}", file=sys.stderr)
-        return Verdict.UNKNOWN
+        return failed(NAME, fault_text(fault, asked.budgets), Verdict.UNKNOWN)
     return max((it.verdict for it in results), default=Verdict.UNKNOWN)

@@ -17,6 +17,8 @@ from pathlib import Path
 from types import FrameType
 from typing import Mapping
 
+from fptools.commands.common import failed, new_parser
+from fptools.program.status import CANNOT
 from fptools.files.elf import Program, ProgramError
 from fptools.gdb.machine import MOST_CYCLES, Machine
 from fptools.gdb.monitor import Monitor
@@ -27,24 +29,16 @@ from fptools.files.image import ImageError, read_image
 from fptools.files.lint import read_valid
 from fptools.program.calls import HELP, Flexpret
 
-CANNOT = 2
 CYCLES = 10_000_000
 
 
 def parse() -> argparse.Namespace:
-    parser = argparse.ArgumentParser(
-        prog=NAME, description=__doc__, formatter_class=argparse.RawDescriptionHelpFormatter
-    )
+    parser = new_parser(__doc__, NAME)
     add = parser.add_argument
-    add("setup", type=Path, help="the setup of the run")
-    add(
-        "--elf",
-        type=Path,
-        metavar="FILE",
-        help="the executable: compared with the image, and names for monitor",
-    )
+    parser.path("setup", "the setup of the run")
+    parser.path("--elf", "the executable: compared with the image, and names for monitor", "FILE")
     add("--cycles", type=int, default=CYCLES, metavar="N", help=f"where the run ends ({CYCLES})")
-    add("--flexpret", metavar="PROGRAM", help=HELP)
+    parser.add_argument("--flexpret", metavar="PROGRAM", help=HELP)
     asked = parser.parse_args()
     if not 1 <= asked.cycles <= MOST_CYCLES:
         parser.error(f"--cycles {asked.cycles}: cycles are 1 to {MOST_CYCLES}")
@@ -102,5 +96,4 @@ def main() -> int:
     except (Gone, KeyboardInterrupt):
         return 0
     except RunFailed as fault:
-        print(f"{NAME}: {fault}", file=sys.stderr)
-        return CANNOT
+        return failed(NAME, fault)

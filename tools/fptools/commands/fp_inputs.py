@@ -10,7 +10,6 @@ file can't be read or written."""
 from __future__ import annotations
 
 import argparse
-import os
 import sys
 import tomllib
 from contextlib import suppress
@@ -18,6 +17,7 @@ from decimal import Decimal, InvalidOperation
 from pathlib import Path
 from typing import Sequence
 
+from fptools.commands.common import failed, let_reader_go, new_parser
 from fptools.devices.csv_inputs import (
     MOST_DIGITS,
     MOST_INPUTS,
@@ -33,7 +33,7 @@ from fptools.files.setup import MOST_BYTES, Setup, setup_of
 from fptools.files.toml import TomlError, read_toml
 from fptools.files.written import write_whole
 
-TOO_MANY, CANNOT = 1, 2
+TOO_MANY = 1
 
 
 def scale(text: str) -> Decimal:
@@ -55,19 +55,15 @@ def cycles(text: str) -> int:
 
 
 def parse() -> argparse.Namespace:
-    parser = argparse.ArgumentParser(
-        prog="fp_inputs",
-        description=__doc__,
-        formatter_class=argparse.RawDescriptionHelpFormatter,
-    )
+    parser = new_parser(__doc__, "fp_inputs")
     add = parser.add_argument
-    add("setup", type=Path, metavar="SETUP", help="the setup")
-    add("csv", type=Path, metavar="CSV", help="the inputs")
+    parser.path("setup", "the setup", "SETUP")
+    parser.path("csv", "the inputs", "CSV")
     add("--thread", type=int, choices=range(8), required=True, metavar="i", help="their thread")
     add("--scale", type=scale, default=Decimal(1), metavar="F", help="the word of a value 1")
-    add("--changes", action="store_true", help="leaves out inputs that change nothing")
+    parser.flag("--changes", "leaves out inputs that change nothing")
     add("--every", type=cycles, metavar="N", help="leaves the first input of each N cycles")
-    add("--replace", action="store_true", help="the inputs that the thread has are taken out")
+    parser.flag("--replace", "the inputs that the thread has are taken out")
     add("-o", "--output", type=Path, metavar="FILE", help="the new setup")
     return parser.parse_args()
 
@@ -126,8 +122,7 @@ def main() -> int:
         setup = read_valid(asked.setup)
         inputs = asked_inputs(asked, setup.period)
         if len(inputs) > MOST_INPUTS:
-            print(f"fp_inputs: {asked.csv}: {beyond(inputs)}", file=sys.stderr)
-            return TOO_MANY
+            return failed("fp_inputs", f"{asked.csv}: {beyond(inputs)}", TOO_MANY)
         text, _ = read_toml(setup.path, MOST_BYTES)
         if asked.replace:
             text = without_inputs(setup, asked.thread)
@@ -139,8 +134,7 @@ def main() -> int:
             sys.stdout.write(made)
             sys.stdout.flush()
     except BrokenPipeError:
-        os.dup2(os.open(os.devnull, os.O_WRONLY), sys.stdout.fileno())
+        let_reader_go()
     except (OSError, TomlError, ValueError) as fault:
-        print(f"fp_inputs: {fault}", file=sys.stderr)
-        return CANNOT
+        return failed("fp_inputs", fault)
     return 0

@@ -29,6 +29,7 @@ import argparse
 import sys
 from pathlib import Path
 
+from fptools.commands.common import failed, new_parser
 from fptools.layout.assembly import Assembly, Fault, source_of
 from fptools.layout.layout import MOST_COPIES, Marks, Message, Options, lay_out
 from fptools.files.written import write_whole
@@ -51,9 +52,7 @@ def count(text: str) -> int:
 
 
 def parse() -> argparse.Namespace:
-    parser = argparse.ArgumentParser(
-        description=__doc__, formatter_class=argparse.RawDescriptionHelpFormatter
-    )
+    parser = new_parser(__doc__)
     add = parser.add_argument
     add("source", nargs="?", default="-", help="the assembly; `-`, or left out: standard input")
     add("-o", dest="out", metavar="FILE", help="where it is written; left out: standard output")
@@ -122,8 +121,7 @@ def main() -> int:
         say(name, lines, Message(fault.line, fault.why))
         return 2
     except OSError as fault:
-        print(f"fp_layout: {fault}", file=sys.stderr)
-        return 2
+        return failed("fp_layout", fault)
     for message in [*laid.notes, *laid.kept]:
         say(name, lines, message)
     return 1 if laid.kept else 0

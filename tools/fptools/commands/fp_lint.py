@@ -4,23 +4,21 @@ Each line is FILE:LINE: LEVEL: KEY: what it is. An error is refused by the progr
 meant; notes are shown with --notes. Exit status: 0 without errors and warnings, 1 with them, 2 if a file can't be read."""
 from __future__ import annotations
 
-import argparse
 import sys
 from pathlib import Path
 
+from fptools.commands.common import new_parser
 from fptools.files.lint import Finding, Level, lint
 from fptools.files.setup import read_setup
 from fptools.files.toml import TomlError
 
 
 def main() -> int:
-    parser = argparse.ArgumentParser(
-        description=__doc__, formatter_class=argparse.RawDescriptionHelpFormatter
-    )
+    parser = new_parser(__doc__)
     parser.add_argument(
         "setup", type=Path, nargs="+", help="a setup; its image is sought as the program seeks it"
     )
-    parser.add_argument("--notes", action="store_true", help="show notes too")
+    parser.flag("--notes", "show notes too")
     asked = parser.parse_args()
     status = 0
     for path in asked.setup:

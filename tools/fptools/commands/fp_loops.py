@@ -17,6 +17,7 @@ import argparse
 import sys
 from pathlib import Path
 
+from fptools.commands.common import failed, new_parser
 from fptools.files.elf import Program, ProgramError, other_word
 from fptools.files.image import ImageError, read_image
 from fptools.flow.inference import Inference, StatedLoop
@@ -27,11 +28,9 @@ from fptools.files.sources import Sources
 
 
 def parse() -> argparse.Namespace:
-    parser = argparse.ArgumentParser(
-        description=__doc__, formatter_class=argparse.RawDescriptionHelpFormatter
-    )
+    parser = new_parser(__doc__)
     add = parser.add_argument
-    add("elf", type=Path, help="the executable")
+    parser.path("elf", "the executable")
     add(
         "--from",
         dest="start",
@@ -45,9 +44,9 @@ def parse() -> argparse.Namespace:
         metavar="A",
         help="the address behind the last; left out: the function of --from, which is left by its returns",
     )
-    add("--calls", action="store_true", help="calls of functions come back, as for the command `calls`")
-    add("--setup", type=Path, help="the setup that the tables are for: its image has to be made of ELF")
-    add("--src", type=Path, metavar="DIR", help="where the sources are, if not where they were compiled")
+    parser.flag("--calls", "calls of functions come back, as for the command `calls`")
+    parser.path("--setup", "the setup that the tables are for: its image has to be made of ELF")
+    parser.path("--src", "where the sources are, if not where they were compiled", "DIR")
     return parser.parse_args()
 
 
@@ -97,8 +96,7 @@ def main() -> int:
         sources.look_at(known)
         other, old = sources.other_than(program), sources.old_comment(known)
     except (OSError, ValueError, ImageError, ProgramError) as fault:
-        print(f"fp_loops: {fault}", file=sys.stderr)
-        return 2
+        return failed("fp_loops", fault)
     if other:
         print(f"fp_loops: {other}: build it again by `make`", file=sys.stderr)
     if old:

@@ -13,22 +13,18 @@ from __future__ import annotations
 
 import argparse
 import os
-import sys
 import tempfile
 from pathlib import Path
 
+from fptools.commands.common import failed, new_parser
 from fptools.new.program import BIG, MOST_THREADS, SMALL, New, NotMade
 
 THREADS = 2
 
 
 def parse() -> argparse.Namespace:
-    parser = argparse.ArgumentParser(
-        prog="fp_new", description=__doc__, formatter_class=argparse.RawDescriptionHelpFormatter
-    )
-    parser.add_argument(
-        "folder", metavar="FOLDER", type=Path, help="the folder, which isn't there yet"
-    )
+    parser = new_parser(__doc__, "fp_new")
+    parser.path("folder", "the folder, which isn't there yet", "FOLDER")
     parser.add_argument(
         "--threads",
         type=int,
@@ -36,11 +32,7 @@ def parse() -> argparse.Namespace:
         metavar="N",
         help=f"the hard threads, 1 to {MOST_THREADS} ({THREADS})",
     )
-    parser.add_argument(
-        "--big",
-        action="store_true",
-        help="scratchpads of 64 KiB, 8 KiB for each thread; else 16 and 2 (version = 2)",
-    )
+    parser.flag("--big", "scratchpads of 64 KiB, 8 KiB for each thread; else 16 and 2 (version = 2)")
     return parser.parse_args()
 
 
@@ -66,8 +58,7 @@ def main() -> int:
         new = New(folder.name, asked.threads, size)
         make(folder, new)
     except (NotMade, OSError) as fault:
-        print(f"fp_new: {fault}", file=sys.stderr)
-        return 2
+        return failed("fp_new", fault)
     threads = ", ".join(f"T{it}" for it in range(new.threads))
     print(f"{folder}: {threads}, each with {size.short} of code and of data")
     print(f"next: cd {folder} && make && make run && make check")

@@ -24,6 +24,7 @@ from pathlib import Path
 from types import FrameType
 from typing import BinaryIO, Callable, NoReturn
 
+from fptools.commands.common import Parser, failed, let_reader_go
 from fptools.checkout import TOOLS, TOP
 from fptools.files.lint import read_valid
 from fptools.devices.plant_runs import (
@@ -39,7 +40,7 @@ from fptools.devices.plant_runs import (
 from fptools.files.toml import TomlError
 from fptools.limits import MOST_CYCLES
 
-FAILED, CANNOT, DIFFERS, INTERRUPTED = 1, 2, 3, 130
+FAILED, DIFFERS, INTERRUPTED = 1, 3, 130
 SIGNALS = (signal.SIGINT, signal.SIGTERM, signal.SIGHUP)
 LAUNCH = TOOLS / "fp_launch"
 MOST_LIST = 1 << 26
@@ -69,7 +70,7 @@ def seconds(text: str) -> float:
 
 
 def parse(words: list[str]) -> argparse.Namespace:
-    parser = argparse.ArgumentParser(
+    parser = Parser(
         prog="fp_plant",
         usage="fp_plant SETUP --thread i --every N --cycles N [options] -- COMMAND ..",
         description=__doc__,
@@ -81,10 +82,10 @@ def parse(words: list[str]) -> argparse.Namespace:
     cycles = number(1, MOST_CYCLES)
     add("--every", type=cycles, required=True, metavar="N", help="cycles between two exchanges")
     add("--cycles", type=cycles, required=True, metavar="N", help="cycles of the run")
-    add("--plants", type=Path, metavar="FILE", help="a list of loop_cli, for other threads")
+    parser.path("--plants", "a list of loop_cli, for other threads", "FILE")
     add("-o", "--output", type=Path, metavar="FILE", help="the trace, if not standard output")
-    add("--log", type=Path, metavar="FILE", help="writes `CYCLE WORD ANSWER` of each exchange")
-    add("--check", action="store_true", help="compares with a replay by the proved loop")
+    parser.path("--log", "writes `CYCLE WORD ANSWER` of each exchange", "FILE")
+    parser.flag("--check", "compares with a replay by the proved loop")
     limit = "the plant has to answer in S seconds (60)"
     add("--timeout", type=seconds, default=60.0, metavar="S", help=limit)
     name = "loop_cli; if left out, what LOOP_CLI names, or the one of this repository"
@@ -195,18 +196,15 @@ def main() -> int:
             status = run_all(asked, files)
         return status
     except PlantFailed as fault:
-        print(f"fp_plant: {fault}", file=sys.stderr)
-        return FAILED
+        return failed("fp_plant", fault, FAILED)
     except (BrokenPipeError, KeyboardInterrupt) as fault:
-        os.dup2(os.open(os.devnull, os.O_WRONLY), sys.stdout.fileno())
+        let_reader_go()
         return INTERRUPTED if isinstance(fault, KeyboardInterrupt) else 0
     except OSError as fault:
         where = f"{fault.filename}: " if fault.filename else ""
-        print(f"fp_plant: {where}{fault.strerror}", file=sys.stderr)
-        return CANNOT
+        return failed("fp_plant", f"{where}{fault.strerror}")
     except (NotRun, TomlError, ValueError) as fault:
-        print(f"fp_plant: {fault}", file=sys.stderr)
-        return CANNOT
+        return failed("fp_plant", fault)
 
 
 def interrupt(_number: int, _frame: FrameType | None) -> NoReturn:

@@ -24,6 +24,7 @@ import tempfile
 from pathlib import Path
 from typing import Iterator, Mapping, Sequence
 
+from fptools.commands.common import failed, let_reader_go, new_parser
 from fptools.core.compared import THREADS, Compared, CompareFailed, Comparer, Difference, split
 from fptools.isa.disassembly import Disassembler, find_tool
 from fptools.files.elf import Program, ProgramError
@@ -37,7 +38,7 @@ from fptools.limits import MOST_CYCLES
 from fptools.view.rows import VIEW_BESIDE, VIEW_HELP, View, ViewFailed
 
 NAME = "fp_record"
-DIFFERS, CANNOT = 1, 2
+DIFFERS = 1
 BEFORE = 4  # lines before a difference
 VIEWED_BEFORE, VIEWED_AFTER = 4, 6  # cycles of the view before a difference, and from it on
 BUILT_VIEW = VIEW_BESIDE.parent / "crates/flexpret_view/out/flexpret_view"
@@ -60,13 +61,11 @@ def renamed(text: str) -> tuple[str, str]:
 
 
 def parse() -> argparse.Namespace:
-    parser = argparse.ArgumentParser(
-        prog=NAME, description=__doc__, formatter_class=argparse.RawDescriptionHelpFormatter
-    )
+    parser = new_parser(__doc__, NAME)
     add = parser.add_argument
-    add("record", type=Path, metavar="RECORD", help="the recorded signals")
-    add("--thread", type=int, choices=THREADS, metavar="I", help="writes the trace of this thread")
-    add("--compare", type=Path, metavar="SETUP", help="compares all threads with a run of SETUP")
+    parser.path("record", "the recorded signals", "RECORD")
+    parser.thread("writes the trace of this thread")
+    parser.path("--compare", "compares all threads with a run of SETUP", "SETUP")
     add("--cycles", type=cycles, metavar="N", help="the cycles that were recorded")
     add(
         *("--signal", "-s"),
@@ -76,9 +75,9 @@ def parse() -> argparse.Namespace:
         metavar="NAME=THEIRS",
         help="the name of a signal in RECORD, in VCD also with scopes",
     )
-    add("--elf", type=Path, metavar="FILE", help="names of addresses from the executable")
-    add("--map", type=Path, metavar="FILE", help="names of addresses from a map (asm --map)")
-    add("--flexpret", metavar="PROGRAM", help=HELP)
+    parser.path("--elf", "names of addresses from the executable", "FILE")
+    parser.path("--map", "names of addresses from a map (asm --map)", "FILE")
+    parser.add_argument("--flexpret", metavar="PROGRAM", help=HELP)
     add("--view", metavar="PROGRAM", help=VIEW_HELP)
     given = parser.parse_args()
     if (given.thread is None) == (given.compare is None):
@@ -180,11 +179,9 @@ def main() -> int:
             return compare(given, names)
         write_trace(given, names)
     except BrokenPipeError:
-        os.dup2(os.open(os.devnull, os.O_WRONLY), sys.stdout.fileno())
+        let_reader_go()
     except ViewFailed as fault:
-        print(f"{NAME}: the view: {(fault.output or fault.errors).strip()}", file=sys.stderr)
-        return CANNOT
+        return failed(NAME, f"the view: {(fault.output or fault.errors).strip()}")
     except (OSError, RecordError, TomlError, ProgramError, CompareFailed, ValueError) as fault:
-        print(f"{NAME}: {fault}", file=sys.stderr)
-        return CANNOT
+        return failed(NAME, fault)
     return 0

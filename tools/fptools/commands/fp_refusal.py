@@ -10,11 +10,9 @@ package, pyelftools. Exit status: 0; 2 if the line is no refusal, a file that it
 or the package is missing."""
 from __future__ import annotations
 
-import argparse
-import os
 import sys
-from pathlib import Path
 
+from fptools.commands.common import failed, let_reader_go, new_parser
 from fptools.files.labels import named_by
 from fptools.program.refusals import FAULTS, Context, explain
 
@@ -22,17 +20,15 @@ NAME = "fp_refusal"
 
 
 def main() -> int:
-    parser = argparse.ArgumentParser(
-        prog=NAME, description=__doc__, formatter_class=argparse.RawDescriptionHelpFormatter
-    )
+    parser = new_parser(__doc__, NAME)
     add = parser.add_argument
     add("line", nargs="*", help="the refusal, as one word or as many")
-    add("--setup", type=Path, help="the setup of the command")
-    add("--file", type=Path, help="the source, image, executable or list of routines")
-    add("--thread", type=int, choices=range(8), metavar="I", help="the thread of the command")
-    add("--elf", type=Path, metavar="FILE", help="the executable that the image was made of")
-    add("--map", type=Path, metavar="FILE", help="the map of the source that it was made of")
-    add("--src", type=Path, metavar="DIR", help="where the sources are, if not where they were compiled")
+    parser.path("--setup", "the setup of the command")
+    parser.path("--file", "the source, image, executable or list of routines")
+    parser.thread("the thread of the command")
+    parser.path("--elf", "the executable that the image was made of", "FILE")
+    parser.path("--map", "the map of the source that it was made of", "FILE")
+    parser.path("--src", "where the sources are, if not where they were compiled", "DIR")
     asked = parser.parse_args()
     try:
         context = Context(asked.setup, asked.file, named_by(asked.elf, asked.map), asked.src, asked.thread)
@@ -40,8 +36,7 @@ def main() -> int:
             print(line)
         sys.stdout.flush()
     except BrokenPipeError:
-        os.dup2(os.open(os.devnull, os.O_WRONLY), sys.stdout.fileno())
+        let_reader_go()
     except FAULTS as fault:
-        print(f"{NAME}: {fault}", file=sys.stderr)
-        return 2
+        return failed(NAME, fault)
     return 0

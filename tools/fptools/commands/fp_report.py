@@ -31,6 +31,7 @@ import sys
 from pathlib import Path
 from subprocess import SubprocessError
 
+from fptools.commands.common import failed, new_parser
 from fptools.budget.files import ValidationError, Verdict, fault_text, read_budgets
 from fptools.files.elf import Program, ProgramError
 from fptools.report.findings import NAME, Findings, NoReport, Question
@@ -74,30 +75,19 @@ run_cycles.__name__, window.__name__ = "number of cycles", "window A:B"  # in me
 
 
 def parse() -> argparse.Namespace:
-    parser = argparse.ArgumentParser(
-        prog=NAME, description=__doc__, formatter_class=argparse.RawDescriptionHelpFormatter
-    )
+    parser = new_parser(__doc__, NAME)
     add = parser.add_argument
-    add("setup", type=Path, help="the setup, whose image is sought as the program seeks it")
+    parser.path("setup", "the setup, whose image is sought as the program seeks it")
     add(
         "budgets",
         type=Path,
         nargs="?",
         help="the sections and their budgets, as fp_budget reads them; with --all they may be left out",
     )
-    add("--all", action="store_true", help="the periods and stacks of all hard threads too")
+    parser.flag("--all", "the periods and stacks of all hard threads too")
     add("-o", dest="out", type=Path, metavar="FILE", required=True, help="the file to write; - is refused")
-    add(
-        "--elf",
-        type=Path,
-        help="the executable that the image was made of, for names and source lines",
-    )
-    add(
-        "--src",
-        type=Path,
-        metavar="DIR",
-        help="where the sources are, if not where they were compiled",
-    )
+    parser.path("--elf", "the executable that the image was made of, for names and source lines")
+    parser.path("--src", "where the sources are, if not where they were compiled", "DIR")
     add(
         "--cycles",
         type=run_cycles,
@@ -109,7 +99,7 @@ def parse() -> argparse.Namespace:
         "--window", type=window, metavar="A:B", help=f"the timeline's cycles, {MOST_WINDOW} at most"
     )
     add("--title", help="the title of the page")
-    add("--flexpret", metavar="PROGRAM", help=HELP)
+    parser.add_argument("--flexpret", metavar="PROGRAM", help=HELP)
     asked = parser.parse_args()
     if asked.budgets is None and not asked.all:
         parser.error("BUDGETS is missing; without it --all answers for all hard threads")
@@ -162,10 +152,8 @@ def main() -> int:
         sys.stdout.flush()
         write_whole(asked.out, page)
     except FAULTS as fault:
-        print(f"{NAME}: {fault_text(fault, asked.budgets)}", file=sys.stderr)
-        return Verdict.UNKNOWN
+        return failed(NAME, fault_text(fault, asked.budgets), Verdict.UNKNOWN)
     except KeyboardInterrupt:
-        print(f"{NAME}: stopped: nothing was written", file=sys.stderr)
-        return Verdict.UNKNOWN
+        return failed(NAME, "stopped: nothing was written", Verdict.UNKNOWN)
     verdicts = [*(it.result.verdict for it in findings.found), *(it.verdict for it in stacks)]
     return max(verdicts, default=Verdict.UNKNOWN)

@@ -14,6 +14,7 @@ import argparse
 import sys
 from pathlib import Path
 
+from fptools.commands.common import failed, new_parser
 from fptools.flow.rounds_to_marks import NoLoop, with_marks
 from fptools.files.written import write_whole
 
@@ -21,11 +22,9 @@ NAME = "fp_rewrite_rounds"
 
 
 def parse() -> argparse.Namespace:
-    parser = argparse.ArgumentParser(
-        prog=NAME, description=__doc__, formatter_class=argparse.RawDescriptionHelpFormatter
-    )
+    parser = new_parser(__doc__, NAME)
     parser.add_argument("sources", nargs="+", type=Path, metavar="SOURCE", help="a C source")
-    parser.add_argument("--in-place", action="store_true", help="change the files; else write standard output")
+    parser.flag("--in-place", "change the files; else write standard output")
     return parser.parse_args()
 
 
@@ -45,6 +44,5 @@ def main() -> int:
             print(f"{NAME}: {path}:{why.line}: {why.why}", file=sys.stderr)
             status = 1
         except OSError as fault:
-            print(f"{NAME}: {fault}", file=sys.stderr)
-            return 2
+            return failed(NAME, fault)
     return status

@@ -33,6 +33,7 @@ import argparse
 import sys
 from pathlib import Path
 
+from fptools.commands.common import failed, new_parser
 from fptools.budget.files import ValidationError, Verdict
 from fptools.files.elf import Program, ProgramError, other_word
 from fptools.files.image import ImageError, read_image
@@ -42,14 +43,12 @@ from fptools.stack.stacks import Stack, Stacks
 
 
 def parse() -> argparse.Namespace:
-    parser = argparse.ArgumentParser(
-        description=__doc__, formatter_class=argparse.RawDescriptionHelpFormatter
-    )
+    parser = new_parser(__doc__)
     add = parser.add_argument
-    add("elf", type=Path, help="the executable that the setup's image was made of")
+    parser.path("elf", "the executable that the setup's image was made of")
     add("--setup", type=Path, required=True, help="the setup")
-    add("--thread", type=int, choices=range(8), metavar="I", help="only this thread")
-    add("--json", action="store_true", help="write the results as a JSON document")
+    parser.thread("only this thread")
+    parser.flag("--json", "write the results as a JSON document")
     return parser.parse_args()
 
 
@@ -81,8 +80,7 @@ def main() -> int:
         print(stacks_as_json(found)) if asked.json else print(*found, sep="\n")
         sys.stdout.flush()
     except (OSError, ValueError, ImageError, ProgramError, ValidationError) as fault:
-        print(f"fp_stack: {fault}", file=sys.stderr)
-        return Verdict.UNKNOWN
+        return failed("fp_stack", fault, Verdict.UNKNOWN)
     for stack in found:
         for note in stack.notes:
             print(f"fp_stack: T{stack.thread}: {note}", file=sys.stderr)

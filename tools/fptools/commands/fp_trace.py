@@ -10,11 +10,11 @@ of another program than the executable; 3 where a line is no event: those before
 from __future__ import annotations
 
 import argparse
-import os
 import sys
 from pathlib import Path
 from subprocess import SubprocessError
 
+from fptools.commands.common import Parser, failed, let_reader_go, new_parser
 from fptools.files.trace_blocks import Block, BrokenTrace, Live, Progress, Source, TraceReader
 from fptools.isa.disassembly import Disassembler, find_tool
 from fptools.files.elf import Program, ProgramError, other_word
@@ -28,7 +28,7 @@ from fptools.isa.turns import Turns, turns_of
 from fptools.visits.visits import WaitJudge
 
 NAME = "fp_trace"
-CANNOT, BROKEN_TRACE = 2, 3
+BROKEN_TRACE = 3
 DEFAULT_PERIOD = 10
 MOST_STORED = 0xFFFF_FFFF
 
@@ -44,33 +44,25 @@ def stored(text: str) -> int:
     return address
 
 
-def add_events(parser: argparse.ArgumentParser) -> None:
+def add_events(parser: Parser) -> None:
     """Adds the options that select events."""
     add = parser.add_argument
     add("--from", dest="start", type=int, default=0, metavar="C", help="events from this cycle on")
     add("--to", dest="end", type=int, metavar="C", help="events before this cycle; the rest isn't read")
-    add("--pc", action="append", default=[], metavar="A", help="events at this address")
-    add("--function", action="append", default=[], metavar="A", help="events in the function of this address")
-    add("--store", action="append", default=[], metavar="N", help="stores to this number, as 0x40000000")
-    add("--traps", action="store_true", help="traps")
-    add("--waits", action="store_true", help="each DU that goes on, and each WU")
-    add("--overruns", action="store_true", help="waits whose moment had passed")
+    parser.many("--pc", "A", "events at this address")
+    parser.many("--function", "A", "events in the function of this address")
+    parser.many("--store", "N", "stores to this number, as 0x40000000")
+    parser.flag("--traps", "traps")
+    parser.flag("--waits", "each DU that goes on, and each WU")
+    parser.flag("--overruns", "waits whose moment had passed")
 
 
 def parse() -> argparse.Namespace:
-    parser = argparse.ArgumentParser(
-        prog=NAME, description=__doc__, formatter_class=argparse.RawDescriptionHelpFormatter
-    )
+    parser = new_parser(__doc__, NAME)
     add = parser.add_argument
     add("trace", nargs="?", type=Path, help="a file; left out, standard input")
-    add("--setup", type=Path, help="the setup of the run, for its period and the thread's turns")
-    add(
-        "--thread",
-        type=int,
-        choices=range(8),
-        metavar="I",
-        help="the thread, where the setup has more than one",
-    )
+    parser.path("--setup", "the setup of the run, for its period and the thread's turns")
+    parser.thread("the thread, where the setup has more than one")
     add(
         "--period",
         type=int,
@@ -78,14 +70,9 @@ def parse() -> argparse.Namespace:
         metavar="N",
         help=f"nanoseconds of a cycle, if no setup is given ({DEFAULT_PERIOD})",
     )
-    add("--elf", type=Path, help="the executable, for symbols and, if it was compiled with -g, source lines")
-    add(
-        "--map",
-        type=Path,
-        metavar="FILE",
-        help="the map of a source (flexpret asm --map), for labels and source lines",
-    )
-    add("--src", type=Path, metavar="DIR", help="where the sources are, if not where they were compiled")
+    parser.path("--elf", "the executable, for symbols and, if it was compiled with -g, source lines")
+    parser.path("--map", "the map of a source (flexpret asm --map), for labels and source lines", "FILE")
+    parser.path("--src", "where the sources are, if not where they were compiled", "DIR")
     add("--objdump", default=find_tool(), metavar="TOOL", help="the objdump to use")
     add_events(parser)
     forms = parser.add_mutually_exclusive_group()
@@ -190,13 +177,11 @@ def main() -> int:
         else:
             shower.show(Live(sys.stdin.fileno()), "standard input")
     except BrokenPipeError:
-        os.dup2(os.open(os.devnull, os.O_WRONLY), sys.stdout.fileno())
+        let_reader_go()
     except BrokenTrace as fault:
-        print(f"{NAME}: {fault}", file=sys.stderr)
-        return BROKEN_TRACE
+        return failed(NAME, fault, BROKEN_TRACE)
     except KeyboardInterrupt:
         return BROKEN_TRACE
     except (OSError, ValueError, SubprocessError, ImageError, ProgramError) as fault:
-        print(f"{NAME}: {fault}", file=sys.stderr)
-        return CANNOT
+        return failed(NAME, fault)
     return 0

@@ -21,10 +21,11 @@ import argparse
 import os
 import sys
 from dataclasses import dataclass
-from pathlib import Path
 from subprocess import SubprocessError
 from typing import Callable, NoReturn
 
+from fptools.commands.common import Parser, failed
+from fptools.program.status import CANNOT
 from fptools.launch.files import lines
 from fptools.launch.view import MOST_CYCLE
 from fptools.files.elf import Program, ProgramError, other_word
@@ -45,7 +46,7 @@ from fptools.view.text import text_of
 from fptools.files.written import write_whole
 
 NAME = "fp_view"
-NEVER, CANNOT, UNREADABLE, NOT_WRITTEN = 1, 2, 7, 8
+NEVER, UNREADABLE, NOT_WRITTEN = 1, 7, 8
 BEFORE_EVENT, AFTER_EVENT, WITHIN = 20, 60, 1_000_000
 FAULTS = (
     *(OSError, ValueError, ImageError, ProgramError, BadEvent, BadMark),
@@ -84,14 +85,14 @@ def thread_list(text: str) -> list[int]:
     return sorted({int(it) for it in parts})
 
 
-class Parser(argparse.ArgumentParser):
+class OneLine(Parser):
     """Reports the fault of the arguments in one line."""
 
     def error(self, message: str) -> NoReturn:
         self.exit(CANNOT, f"{NAME}: {message}; --help has the options\n")
 
 
-def add_forms(parser: argparse.ArgumentParser) -> None:
+def add_forms(parser: Parser) -> None:
     """Adds the options for the form of a view, and for the programs that are called."""
     add = parser.add_argument
     forms = parser.add_mutually_exclusive_group()
@@ -103,40 +104,29 @@ def add_forms(parser: argparse.ArgumentParser) -> None:
         metavar="N",
         help="a picture's columns, so many times as wide",
     )
-    add("--stages", action="store_true", help="a picture with the stages of each turn")
+    parser.flag("--stages", "a picture with the stages of each turn")
     add("--view", metavar="PROGRAM", help=VIEW_HELP)
-    add("--flexpret", metavar="PROGRAM", help=HELP)
+    parser.add_argument("--flexpret", metavar="PROGRAM", help=HELP)
 
 
 def parse() -> argparse.Namespace:
-    parser = Parser(
+    parser = OneLine(
         prog=NAME, description=__doc__, formatter_class=argparse.RawDescriptionHelpFormatter
     )
     add = parser.add_argument
     cycle = number(0, MOST_CYCLE)
-    add("setup", type=Path, help="the setup, whose image is sought as the program seeks it")
+    parser.path("setup", "the setup, whose image is sought as the program seeks it")
     add("--from", dest="first", type=cycle, metavar="CYCLE", help="the first cycle")
     add("--to", dest="end", type=cycle, metavar="CYCLE", help="the cycle behind the last one")
     add("--around", metavar="EVENT", help="a window around an event, and not by its cycles")
     add("--before", type=cycle, metavar="N", help=f"its cycles before the event ({BEFORE_EVENT})")
     add("--after", type=cycle, metavar="N", help=f"its cycles from the event on ({AFTER_EVENT})")
     add("--within", type=number(1, MOST_CYCLE), metavar="N", help=f"cycles of the run ({WITHIN})")
-    add("--elf", type=Path, help="the executable, for symbols and, if it has them, source lines")
-    add("--map", type=Path, metavar="FILE", help="in place of an executable, a map from fp_asm")
-    add(
-        "--src",
-        type=Path,
-        metavar="DIR",
-        help="where the sources are, if not where they were compiled",
-    )
+    parser.path("--elf", "the executable, for symbols and, if it has them, source lines")
+    parser.path("--map", "in place of an executable, a map from fp_asm", "FILE")
+    parser.path("--src", "where the sources are, if not where they were compiled", "DIR")
     add("--threads", type=thread_list, metavar="LIST", help="the threads that are shown (all)")
-    add(
-        "--mark",
-        action="append",
-        default=[],
-        metavar="MARK",
-        help="what is marked; may be repeated",
-    )
+    parser.many("--mark", "MARK", "what is marked; may be repeated")
     add_forms(parser)
     asked = parser.parse_args()
     if fault := fault_of(asked):
@@ -254,12 +244,9 @@ def main() -> int:
         sys.stderr.write("".join(told) if fault.status == UNREADABLE else fault.errors)
         return fault.status
     except NeverCame as fault:
-        print(f"{NAME}: {fault}", file=sys.stderr)
-        return NEVER
+        return failed(NAME, fault, NEVER)
     except (BadWindow, *FAULTS) as fault:
-        print(f"{NAME}: {fault}", file=sys.stderr)
-        return CANNOT
+        return failed(NAME, fault)
     except KeyboardInterrupt:
-        print(f"{NAME}: stopped: nothing was written", file=sys.stderr)
-        return CANNOT
+        return failed(NAME, "stopped: nothing was written")
     return put(asked.svg or asked.vcd or asked.konata, text)

@@ -33,12 +33,13 @@ from __future__ import annotations
 
 import argparse
 import json
-import os
 import sys
 from dataclasses import replace
 from pathlib import Path
-from typing import Any
 
+
+from fptools.commands.common import Parser, failed, let_reader_go, new_parser
+from fptools.program.status import CANNOT
 from fptools.files.trace_blocks import Live, Progress, TraceReader
 from fptools.budget.bounds import called_functions, with_bound
 from fptools.budget.files import Result, ValidationError, read_budgets
@@ -67,9 +68,10 @@ from fptools.files.setup import Setup, spelled
 from fptools.files.sources import Sources
 from fptools.limits import MOST_CYCLES
 from fptools.visits.visits import Watched
+from fptools.untyped import Values
 
 NAME = "fp_visits"
-BROKE, CANNOT, BROKEN_TRACE = 1, 2, 3
+BROKE, BROKEN_TRACE = 1, 3
 THREADS = range(8)
 
 
@@ -84,10 +86,20 @@ def cycles(text: str) -> int:
     return number
 
 
+def add_sections(parser: Parser) -> None:
+    """Adds the options that name sections, and what is known of them."""
+    parser.path("--budgets", "sections and their budgets, as fp_budget reads them", "FILE")
+    parser.many("--section", "[NAME=]A:B", "the section from A up to below B")
+    parser.many("--function", "A", "the function at this address")
+    parser.path("--elf", "the executable that the image was made of, for names and functions")
+    parser.path("--map", "the map of the source that it was made of (flexpret asm --map), for names", "FILE")
+    parser.flag("--calls", "the sections of --section call functions of the executable")
+    parser.path("--routines", "they call these: lines of a first and a last word, as for the command calls", "FILE")
+    parser.flag("--no-bounds", "don't ask the program for bounds")
+
+
 def parse() -> argparse.Namespace:
-    parser = argparse.ArgumentParser(
-        prog=NAME, description=__doc__, formatter_class=argparse.RawDescriptionHelpFormatter
-    )
+    parser = new_parser(__doc__, NAME)
     add = parser.add_argument
     add(
         "trace",
@@ -95,7 +107,7 @@ def parse() -> argparse.Namespace:
         type=Path,
         help="a file; left out, standard input; with --cycles the setup, if --setup isn't given",
     )
-    add("--setup", type=Path, help="the setup of the run: its loop tables, slots, period and image")
+    parser.path("--setup", "the setup of the run: its loop tables, slots, period and image")
     add(
         "--period",
         type=int,
@@ -104,43 +116,20 @@ def parse() -> argparse.Namespace:
         help=f"nanoseconds of a cycle, if no setup is given ({DEFAULT_PERIOD})",
     )
     add("--cycles", type=cycles, metavar="N", help="run the setup for N cycles")
-    add(
-        "--thread",
-        type=int,
-        choices=THREADS,
-        metavar="I",
-        help="the thread, 0 to 7; left out, those of the budgets, or the only one",
-    )
-    add("--budgets", type=Path, metavar="FILE", help="sections and their budgets, as fp_budget reads them")
-    add(
-        "--section",
-        action="append",
-        default=[],
-        metavar="[NAME=]A:B",
-        help="the section from A up to below B",
-    )
-    add("--function", action="append", default=[], metavar="A", help="the function at this address")
-    add("--elf", type=Path, help="the executable that the image was made of, for names and functions")
-    add(
-        "--map",
-        type=Path,
-        metavar="FILE",
-        help="the map of the source that it was made of (flexpret asm --map), for names",
-    )
-    add("--calls", action="store_true", help="the sections of --section call functions of the executable")
-    add(
-        "--routines",
-        type=Path,
-        metavar="FILE",
-        help="they call these: lines of a first and a last word, as for the command calls",
-    )
-    add("--no-bounds", action="store_true", help="don't ask the program for bounds")
+    parser.thread("the thread, 0 to 7; left out, those of the budgets, or the only one")
+    add_sections(parser)
     add("--from", dest="start", type=cycles, default=0, metavar="C", help="events from this cycle on")
     add("--to", dest="end", type=cycles, metavar="C", help="events before this cycle; the rest isn't read")
-    add("--json", action="store_true", help="write JSON")
-    add("--csv", action="store_true", help="write a row for each section")
-    add("--flexpret", metavar="PROGRAM", help=HELP)
+    parser.flag("--json", "write JSON")
+    parser.flag("--csv", "write a row for each section")
+    parser.add_argument("--flexpret", metavar="PROGRAM", help=HELP)
     asked = parser.parse_args()
+    refuse(parser, asked)
+    return asked
+
+
+def refuse(parser: Parser, asked: argparse.Namespace) -> None:
+    """Ends the call where its arguments don't go together. With --cycles the first one is the setup."""
     if asked.cycles is not None and asked.setup is None:
         asked.setup, asked.trace = asked.trace, None
     if asked.cycles is not None and (asked.trace or not asked.setup):
@@ -149,7 +138,6 @@ def parse() -> argparse.Namespace:
         parser.error("--budgets needs --setup, for the period and the bounds")
     if asked.json and asked.csv:
         parser.error("--json or --csv, not both")
-    return asked
 
 
 class Asked:
@@ -343,7 +331,7 @@ def write(asked: Asked, seen: list[Observation], status: int, periods: list[Resu
     if asked.options.csv:
         print(as_csv(seen), end="")
     elif asked.options.json:
-        document: dict[str, Any] = {
+        document: Values = {
             "setup": str(asked.options.setup) if asked.options.setup else None,
             "threads": [as_data(it, text) for it in seen],
             "status": status,
@@ -385,7 +373,7 @@ def main() -> int:
         write(asked, seen, status, periods)
         look_at_sources(asked)
     except BrokenPipeError:
-        os.dup2(os.open(os.devnull, os.O_WRONLY), sys.stdout.fileno())
+        let_reader_go()
         return 0
     except ValidationError as fault:
         print(
@@ -394,6 +382,5 @@ def main() -> int:
         )
         return CANNOT
     except (OSError, ValueError, ImageError, ProgramError, RunFailed, Unclear) as fault:
-        print(f"{NAME}: {fault}", file=sys.stderr)
-        return CANNOT
+        return failed(NAME, fault)
     return status

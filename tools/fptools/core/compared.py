@@ -11,12 +11,12 @@ from pathlib import Path
 from typing import IO, Iterable, Sequence
 
 from fptools.program.calls import Flexpret
+from fptools.program.status import Status
 from fptools.core.records import RETIRES, Recorded
 from fptools.files.setup import Setup
 
 THREADS = range(8)
 MOST_CHECKED = 1_000_000  # cycles, of `check`
-DIFFERS = 1  # the status of `check`
 
 
 class How(Enum):
@@ -104,9 +104,9 @@ class Comparer:
 
     def _is_same(self, thread: int, trace: Path) -> bool:
         answer = self.program.ask("check", *self._words(thread), "--trace", str(trace))
-        if answer.status not in (0, DIFFERS):
+        if answer.status not in (Status.OK, Status.DIFFERS):
             raise CompareFailed(answer.reason)
-        return answer.status == 0
+        return answer.status == Status.OK
 
     def _first_difference(self, command: str, thread: int, trace: Path) -> Difference | None:
         words = [self.program.path, command, *self._words(thread)]

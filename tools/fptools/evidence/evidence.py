@@ -8,7 +8,7 @@ import json
 import subprocess
 from dataclasses import dataclass
 from pathlib import Path
-from typing import Any, Sequence
+from typing import Sequence
 
 from fptools.launch.sources import Checkout, commit_of, kit_line, read_stamp, said_by
 from fptools.budget.files import Result
@@ -18,6 +18,7 @@ from fptools.program.calls import BESIDE, Flexpret
 from fptools.files.setup import Setup
 from fptools.stack.stacks import Stack
 from fptools.files.toml import read_toml
+from fptools.untyped import Values
 
 DATA = Path(__file__).resolve().parent / "evidence.toml"
 RECORD = TOP / "out/test.json"
@@ -113,10 +114,10 @@ class Evidence:
     promises: tuple[Promise, ...]
     trusted: tuple[tuple[str, str], ...]
     comparisons: tuple[Comparison, ...]
-    gate: dict[str, Any] | None  # what ./test recorded
+    gate: Values | None  # what ./test recorded
 
 
-def read_data(path: Path = DATA) -> dict[str, Any]:
+def read_data(path: Path = DATA) -> Values:
     """The tables of evidence.toml. What pip or tools/install.sh installs has none."""
     if not path.is_file():
         raise NoClause(
@@ -126,7 +127,7 @@ def read_data(path: Path = DATA) -> dict[str, Any]:
     return values
 
 
-def promises_of(values: dict[str, Any], top: Path = TOP) -> list[Promise]:
+def promises_of(values: Values, top: Path = TOP) -> list[Promise]:
     """The promises, each with its clauses as they are in the sources now."""
     crates = Crates(top)
     traits = [crates.definition(file, name) for name, file in values["traits"].items()]
@@ -151,7 +152,7 @@ def traits_of(clauses: Sequence[Clause]) -> set[str]:
     return {trait for member, trait in members.items() if member in text}
 
 
-def comparisons_of(values: dict[str, Any], top: Path = TOP) -> list[Comparison]:
+def comparisons_of(values: Values, top: Path = TOP) -> list[Comparison]:
     """The comparisons. Rows of tables are counted."""
     found = []
     for it in values["comparison"]:
@@ -216,7 +217,7 @@ def changes_of(top: Path) -> tuple[str, ...]:
     )
 
 
-def gate_record(path: Path = RECORD) -> dict[str, Any] | None:
+def gate_record(path: Path = RECORD) -> Values | None:
     """What the last whole ./test recorded; None where there is no record."""
     try:
         found = json.loads(path.read_text())

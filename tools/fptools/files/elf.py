@@ -7,11 +7,12 @@ from bisect import bisect_right
 from dataclasses import dataclass
 from functools import cached_property
 from pathlib import Path
-from typing import Any, Collection, Iterable, Iterator, Mapping
+from typing import Collection, Iterable, Iterator, Mapping
 
 from fptools.files.image import words_of
 from fptools.flow.one_function import Origin, origins_of
 from fptools.files.checksums import SECTION, NoRecord, read_record
+from fptools.untyped import Dwarf
 
 # Without an executable nothing here needs pyelftools: the methods that read one import it.
 
@@ -89,7 +90,7 @@ class Program:
         except FAULTS as fault:
             raise ProgramError(f"{path} is a broken ELF file: {fault}") from fault
 
-    def _read(self, elf: Any) -> None:
+    def _read(self, elf: Dwarf) -> None:
         from fptools.files.pyelf import SymbolTableSection
 
         kind = elf.elfclass, elf.little_endian, elf["e_machine"], elf["e_type"]
@@ -112,7 +113,7 @@ class Program:
         except NoRecord as fault:
             raise ProgramError(f"{self.path}: section {SECTION}: {fault}: build it again by `make`") from fault
 
-    def _take_symbols(self, table: Any) -> None:
+    def _take_symbols(self, table: Dwarf) -> None:
         for symbol in table.iter_symbols():
             at, size, kind = symbol["st_value"], symbol["st_size"], symbol["st_info"]["type"]
             if kind == "STT_FILE":
@@ -256,7 +257,7 @@ class Program:
         return frozenset(it["DW_AT_name"].value.decode() for it in named if "DW_AT_name" in it)
 
     @cached_property
-    def _debug_units(self) -> list[Any]:
+    def _debug_units(self) -> list[Dwarf]:
         """Its units of debug information (-g); none where they have a form that isn't known."""
         if self.path is None:
             return []
@@ -285,7 +286,7 @@ class Program:
     def _origins(self) -> Mapping[int, list[Origin | None]]:
         """The functions of the sources, by their first addresses."""
 
-        def file_of(unit: Any, number: int) -> Path:
+        def file_of(unit: Dwarf, number: int) -> Path:
             folder = unit.get_top_DIE().attributes.get("DW_AT_comp_dir")
             table = unit.dwarfinfo.line_program_for_CU(unit).header
             return _file_of(table, number, Path(folder.value.decode()) if folder else Path())
@@ -349,7 +350,7 @@ def linked(pieces: Collection[list[Row]]) -> Iterator[list[Row]]:
             yield piece
 
 
-def _rows_of(dwarf: Any, unit: Any) -> Iterator[Row]:
+def _rows_of(dwarf: Dwarf, unit: Dwarf) -> Iterator[Row]:
     """The rows of a unit's line table."""
     table = dwarf.line_program_for_CU(unit)
     if table is None:
@@ -364,7 +365,7 @@ def _rows_of(dwarf: Any, unit: Any) -> Iterator[Row]:
         yield state.address, None if state.end_sequence else line
 
 
-def _inlined_of(dwarf: Any, unit: Any) -> Iterator[Inlined]:
+def _inlined_of(dwarf: Dwarf, unit: Dwarf) -> Iterator[Inlined]:
     """The inlined functions of a unit, a piece for each range of addresses."""
     table = dwarf.line_program_for_CU(unit)
     top = unit.get_top_DIE()
@@ -385,7 +386,7 @@ def _inlined_of(dwarf: Any, unit: Any) -> Iterator[Inlined]:
             yield Inlined(start, end, line)
 
 
-def _ranges_of(dwarf: Any, unit: Any, entry: Any) -> Iterator[tuple[int, int]]:
+def _ranges_of(dwarf: Dwarf, unit: Dwarf, entry: Dwarf) -> Iterator[tuple[int, int]]:
     """The ranges of addresses of an entry."""
     known = entry.attributes
     if "DW_AT_low_pc" in known and "DW_AT_high_pc" in known:
@@ -407,7 +408,7 @@ def _ranges_of(dwarf: Any, unit: Any, entry: Any) -> Iterator[tuple[int, int]]:
         )
 
 
-def _file_of(table: Any, number: int, base: Path) -> Path:
+def _file_of(table: Dwarf, number: int, base: Path) -> Path:
     """The name of a file in a line table: version 5 counts files and folders from 0, those before from 1."""
     from_zero = table["version"] >= 5
     entry = table["file_entry"][number if from_zero else number - 1]

@@ -5,7 +5,7 @@ import re
 from dataclasses import dataclass
 from enum import Enum
 from pathlib import Path
-from typing import Any, Callable, Iterator, Mapping
+from typing import Callable, Iterator, Mapping
 
 from fptools.flow.counts import count_of_straight, jumps_of
 from fptools.files.image import ImageError, read_image
@@ -13,6 +13,7 @@ from fptools.files.setup import KeyPath, Setup, read_setup, spelled
 from fptools.limits import DATA_START, LARGE
 from fptools.files.toml import faults
 from fptools.isa.words import Flow, Word
+from fptools.untyped import Values
 
 SCHEMA = Path(__file__).resolve().parent / "setup.schema.json"
 MOST_NAME = 255
@@ -89,7 +90,7 @@ def _schema(setup: Setup) -> Iterator[Said]:
         yield error((*fault.absolute_path, *(missing.groups() if missing else ())), fault.message)
 
 
-def _threads(setup: Setup) -> Iterator[tuple[KeyPath, dict[str, Any]]]:
+def _threads(setup: Setup) -> Iterator[tuple[KeyPath, Values]]:
     for index, thread in enumerate(setup.values.get("thread", [])):
         yield ("thread", index), thread
 
@@ -99,7 +100,7 @@ def _loops(setup: Setup) -> Iterator[tuple[KeyPath, dict[str, int]]]:
         yield ("loop", index), loop
 
 
-def _is_awake(thread: Mapping[str, Any]) -> bool:
+def _is_awake(thread: Values) -> bool:
     return not thread["mode"].endswith("asleep")
 
 
@@ -124,7 +125,7 @@ def _refusals(setup: Setup) -> Iterator[Said]:
             yield error((*path, "last"), "is below head")
 
 
-def _unsorted(path: KeyPath, thread: Mapping[str, Any]) -> Iterator[Said]:
+def _unsorted(path: KeyPath, thread: Values) -> Iterator[Said]:
     """Inputs whose cycle isn't above that of the one before."""
     cycles = [cycle for cycle, _ in thread.get("inputs", [])]
     for index, (before, cycle) in enumerate(zip(cycles, cycles[1:]), 1):

@@ -14,10 +14,11 @@ import tomllib
 from dataclasses import dataclass
 from functools import cached_property
 from pathlib import Path
-from typing import Any, Iterator, Mapping
+from typing import Iterator
 
 from fptools.files.toml import read_toml
 from fptools.limits import DATA_START, LARGE, SMALL
+from fptools.untyped import Values
 
 REGIONS = 8
 
@@ -50,7 +51,7 @@ class ThreadTable:
     inputs: tuple[tuple[int, int], ...]  # cycles, each with its word
 
     @classmethod
-    def of(cls, table: Mapping[str, Any]) -> ThreadTable:
+    def of(cls, table: Values) -> ThreadTable:
         return cls(
             table["id"],
             table["mode"],
@@ -77,7 +78,7 @@ class Setup:
     that the program takes."""
 
     path: Path
-    values: dict[str, Any]
+    values: Values
     lines: dict[KeyPath, int]
 
     def line(self, path: KeyPath) -> int | None:

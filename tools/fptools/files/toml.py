@@ -6,9 +6,10 @@ import json
 import re
 import tomllib
 from pathlib import Path
-from typing import Any, Collection, Iterator, Mapping, TYPE_CHECKING
+from typing import Collection, Iterator, TYPE_CHECKING
 
 from fptools import require
+from fptools.untyped import Values
 
 if TYPE_CHECKING:
     from jsonschema import ValidationError
@@ -24,7 +25,7 @@ class TomlError(ValueError):
         self.line, self.text = line, text
 
 
-def read_toml(path: Path, most: int | None = None) -> tuple[str, dict[str, Any]]:
+def read_toml(path: Path, most: int | None = None) -> tuple[str, Values]:
     """The text of a document of so many bytes at most, and its values. A byte order mark is passed over."""
     data = path.read_bytes()
     if most is not None and len(data) > most:
@@ -49,7 +50,7 @@ def _line_of(text: str, fault: str) -> int:
     return int(place[1]) if place else len(text.rstrip("\n").split("\n"))
 
 
-def faults(schema: Path, values: dict[str, Any]) -> Iterator[ValidationError]:
+def faults(schema: Path, values: Values) -> Iterator[ValidationError]:
     """The faults of values by a schema. A TOML float is no integer, though JSON takes 10.0 for one. It needs jsonschema."""
     require("jsonschema")
     import jsonschema
@@ -65,7 +66,7 @@ def faults(schema: Path, values: dict[str, Any]) -> Iterator[ValidationError]:
         yield fault
 
 
-def _unknown_keys(table: Mapping[str, Any], known: Collection[str], top: Collection[str]) -> str:
+def _unknown_keys(table: Values, known: Collection[str], top: Collection[str]) -> str:
     """The message about keys that a table doesn't have, with the ones that may be meant."""
     said = []
     for key in (it for it in table if it not in known):

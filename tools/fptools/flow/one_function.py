@@ -12,7 +12,9 @@ from collections import defaultdict
 from collections.abc import Collection, Iterator, Mapping, Sequence
 from dataclasses import dataclass
 from pathlib import Path
-from typing import Any
+
+from fptools.untyped import Dwarf, Values
+
 
 PART = re.compile(
     r"(?P<size>[1-9]\d*)|L[a-z]n?\d+E|S[0-9A-Z]*_|S[a-z]|T[0-9A-Z]*_|A\d+_"
@@ -60,7 +62,7 @@ class Origin:
     line: int
 
 
-def origins_of(units: Collection[Any], file_of: Any) -> dict[int, list[Origin | None]]:
+def origins_of(units: Collection[Dwarf], file_of: Dwarf) -> dict[int, list[Origin | None]]:
     """The functions of units of debug information by their first addresses; None for one that can't
     be an inline function of C++, of which a linker keeps one copy. `file_of` gives the file of a
     unit's number."""
@@ -73,8 +75,8 @@ def origins_of(units: Collection[Any], file_of: Any) -> dict[int, list[Origin | 
     return found
 
 
-def _origin(unit: Any, entry: Any, file_of: Any) -> Origin | None:
-    known: dict[str, Any] = {}
+def _origin(unit: Dwarf, entry: Dwarf, file_of: Dwarf) -> Origin | None:
+    known: Values = {}
     for it in _chain(entry):
         known = {**it.attributes, **known}
     needed = ("DW_AT_linkage_name", "DW_AT_decl_file", "DW_AT_decl_line", "DW_AT_external")
@@ -84,7 +86,7 @@ def _origin(unit: Any, entry: Any, file_of: Any) -> Origin | None:
     return Origin(name.decode(), file_of(unit, number), line) if name[:2] == b"_Z" else None
 
 
-def _chain(entry: Any) -> Iterator[Any]:
+def _chain(entry: Dwarf) -> Iterator[Dwarf]:
     """An entry, and those that it refers to for what it doesn't say."""
     yield entry
     while origin := next((it for it in ORIGINS if it in entry.attributes), None):

@@ -6,10 +6,10 @@ from __future__ import annotations
 import difflib
 import re
 from dataclasses import dataclass, field
-from typing import Callable, Iterator, Sequence
+from functools import partial
+from typing import Callable, Iterator, Mapping, Sequence
 
 from fptools.limits import MOST_CYCLES
-
 
 MOST_CHECKED = 1_000_000
 """The most cycles that `check` compares."""
@@ -137,36 +137,40 @@ def sort_out(name: str, words: list[str]) -> Asked:
         if word and not word.startswith("-"):
             asked.subjects.append(word)
             continue
-        option, text = option_of(name, word, left)
+        if not word:
+            raise Fault("an argument is empty")
+        known = {one: VALUES[one] for one in COMMANDS[name].options}
+        option, text = option_of(word, left, known, partial(unknown_option, name))
+        if text.startswith("-"):
+            cure = f" (write ./{text})" if VALUES[option] == "FILE" else ""
+            raise Fault(f"--{option} {text}: a value doesn't begin with -{cure}")
         asked.values.setdefault(option, []).append(text)
     return asked
 
 
-def option_of(name: str, word: str, left: Iterator[str]) -> tuple[str, str]:
-    """The option in an argument, and its value, which may be the next argument."""
-    options = COMMANDS[name].options
-    if not word:
-        raise Fault("an argument is empty")
+def option_of(
+    word: str, left: Iterator[str], known: Mapping[str, str], unknown: Callable[[str], str]
+) -> tuple[str, str]:
+    """The option in an argument, and its value, which may be the next argument. `known` has the names of values."""
     option, sign, value = word.removeprefix("--").partition("=")
-    if not word.startswith("--") or option not in options:
-        raise Fault(unknown_option(name, word, option))
+    if not word.startswith("--") or option not in known:
+        raise Fault(unknown(word))
     if not sign:
         value = next(left, "")
     if not value:
-        raise Fault(f"--{option}: {VALUES[option]} is missing")
-    if value.startswith("-"):
-        raise Fault(f"--{option} {value}: a value doesn't begin with -{' (write ./' + value + ')' if VALUES[option] == 'FILE' else ''}")
+        raise Fault(f"--{option}: {known[option]} is missing")
     return option, value
 
 
-def unknown_option(name: str, word: str, option: str) -> str:
+def unknown_option(name: str, word: str) -> str:
     """The message about an argument that begins with `-` and is no option of the command."""
     options = [*(f"--{one}" for one in COMMANDS[name].options), *ADDED.get(name, ())]
     known = f"{name} has the option{'s' * (len(options) > 1)} {listed(options)}" if options else f"{name} has no options"
     if not word.startswith("--"):
         return f"{word}: {known}; a file whose name begins with - is written ./{word}"
-    near = difflib.get_close_matches(f"--{option}", options, 1)
-    return f"--{option}: {known}" + (f"; is {near[0]} meant?" if near else "")
+    option = word.partition("=")[0]
+    near = difflib.get_close_matches(option, options, 1)
+    return f"{option}: {known}" + (f"; is {near[0]} meant?" if near else "")
 
 
 def unknown_option_before(word: str, known: Sequence[str] = BEFORE) -> str:
@@ -221,15 +225,6 @@ def parse(words: list[str]) -> tuple[str, Asked]:
     asked = sort_out(name, words[1:])
     check(name, asked)
     return name, asked
-
-
-def fault_of(words: list[str]) -> str | None:
-    """The fault of a command line, or None."""
-    try:
-        parse(words)
-    except Fault as fault:
-        return str(fault)
-    return None
 
 
 def files_of(words: list[str]) -> list[tuple[str, str]]:

@@ -7,11 +7,9 @@ from pathlib import Path
 
 from fptools.checkout import TOP
 from fptools.launch.sources import Checkout, kit_line, read_stamp
+from fptools.program.status import NOT_BUILT, Status
 
 # The other modules are imported by the commands that need them, since each call waits for its imports.
-
-NOT_BUILT = 125
-"""The status if the result isn't the program's."""
 
 
 def say(script: str, line: str) -> None:
@@ -50,24 +48,25 @@ def unproved(script: str, checkout: Checkout, words: list[str]) -> int:
 
 def explain(script: str, checkout: Checkout, words: list[str]) -> int:
     """Reports a wrong argument, with status 2. Status 0: there is none."""
-    from fptools.launch.arguments import fault_of
-    from fptools.launch.view import fault_of as view_fault
+    from fptools.launch.arguments import Fault, parse
+    from fptools.launch.view import parse as parse_view
 
-    fault = fault_of(words) if checkout.crate == "flexpret_cli" else view_fault(words)
-    if fault is None:
-        return 0
-    say(script, fault)
-    return 2
+    try:
+        parse(words) if checkout.crate == "flexpret_cli" else parse_view(words)
+    except Fault as fault:
+        say(script, str(fault))
+        return Status.USAGE
+    return Status.OK
 
 
 def files(script: str, checkout: Checkout, words: list[str]) -> int:
     """Reports the file of a command that can't be read."""
     from fptools.launch.arguments import Fault, files_of
     from fptools.launch.files import lines
-    from fptools.launch.view import setup_of
+    from fptools.launch.view import parse
 
     try:
-        named = files_of(words) if checkout.crate == "flexpret_cli" else [(setup_of(words), "setup")]
+        named = files_of(words) if checkout.crate == "flexpret_cli" else [(parse(words).subjects[0], "setup")]
     except (Fault, IndexError):
         return 1
     for line in lines(named):

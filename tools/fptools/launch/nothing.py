@@ -3,7 +3,9 @@ from __future__ import annotations
 
 import tomllib
 from pathlib import Path
-from typing import Any
+
+from fptools.untyped import Values
+
 
 FRAME = 8
 """The slots of a frame."""
@@ -12,7 +14,7 @@ FRAME = 8
 def why(setup: Path, thread: int, cycles: int) -> str:
     """Why a thread issues nothing in the first cycles, by its setup. Raises OSError or ValueError."""
     values = tomllib.loads(setup.read_text(encoding="utf-8-sig"))
-    tables: list[dict[str, Any]] = [it for it in values["thread"] if it["id"] == thread] if "thread" in values else []
+    tables: list[Values] = [it for it in values["thread"] if it["id"] == thread] if "thread" in values else []
     said = f"T{thread} issues nothing in the first {cycles} cycle{'s' * (cycles != 1)}"
     if not tables:
         return f"{said}: no [[thread]] of {setup} has id = {thread}, so it sleeps"

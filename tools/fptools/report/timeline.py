@@ -3,7 +3,7 @@ from __future__ import annotations
 
 from collections import defaultdict
 from dataclasses import dataclass
-from typing import Any, Iterable, Sequence
+from typing import Iterable, Sequence
 
 from fptools.report.issues import STAGES, Issue, Span, read_issues
 from fptools.program.calls import Flexpret
@@ -12,6 +12,7 @@ from fptools.view.events import Columns
 from fptools.files.trace import Event
 from fptools.isa.turns import DISABLED
 from fptools.isa.words import OPCODE_LOAD, OPCODE_STORE, OPCODE_TIMING, Flow, Word
+from fptools.untyped import Values
 
 MOST_WINDOW = 20_000  # cycles, which are at most so many issues
 THREADS = range(8)
@@ -55,7 +56,7 @@ class Timeline:
     frame: list[str]  # the owners of the slots that repeat; empty where a thread may change them
     offset: int  # the place in the frame at which the window begins
     rows: list[Row]
-    data: dict[str, Any]
+    data: Values
 
     @property
     def has_sleep(self) -> bool:
@@ -113,7 +114,7 @@ class Painter:
             return []
         return [slot for slot in self._setup.slots if slot != DISABLED]
 
-    def _issues(self, thread: int, issues: Sequence[Issue], window: Span) -> dict[str, Any]:
+    def _issues(self, thread: int, issues: Sequence[Issue], window: Span) -> Values:
         """The cycles of issues, each from the one before, with their words and effects."""
         cycles = [it.event.cycle - window.start for it in issues]
         return {

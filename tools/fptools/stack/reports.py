@@ -2,9 +2,10 @@
 from __future__ import annotations
 
 import json
-from typing import Any, Iterable
+from typing import Iterable
 
 from fptools.stack.stacks import Stack
+from fptools.untyped import Values
 
 
 def stacks_as_json(stacks: Iterable[Stack]) -> str:
@@ -13,7 +14,7 @@ def stacks_as_json(stacks: Iterable[Stack]) -> str:
     return json.dumps(document, indent=2, ensure_ascii=False)
 
 
-def stack_fields(stack: Stack) -> dict[str, Any]:
+def stack_fields(stack: Stack) -> Values:
     """A stack as JSON has it."""
     is_known = stack.bytes is not None and stack.room is not None
     return {

@@ -188,13 +188,3 @@ def seen_loops(
 
 def spelled(words: frozenset[int]) -> str:
     return " ".join(f"{pc:x}" for pc in sorted(words))
-
-
-def seen_of(
-    folder: Path, text: str, way: Way, loop_run: Path, steps: int = 300_000, port: int = ANY_PORT
-) -> list[Seen]:
-    """The loops of a program of one source."""
-    folder.mkdir(parents=True, exist_ok=True)
-    source = folder / ("t.cpp" if "++" in way.compiler else "t.c")
-    source.write_text(text)
-    return seen_loops(Program(folder, [source]).built(way), loop_run, steps=steps, port=port)

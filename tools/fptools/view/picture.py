@@ -4,9 +4,9 @@ A column has 12 pixels times the zoom. With stages, a row has five lines, from F
 from __future__ import annotations
 
 from dataclasses import dataclass
-from html import escape
 from typing import Iterator, Sequence
 
+from fptools.svg import picture, titled, written
 from fptools.view.marks import Mark, Passage, passages_of, periods_of, points_of
 from fptools.view.names import Names, cause_of
 from fptools.view.rows import STAGES, Row, Turn, period_of
@@ -103,9 +103,9 @@ class Picture:
     def text(self) -> str:
         columns = self._shape.column * len(self._rows)
         width, height = max(LEAST_WIDTH, LEFT + columns + TIME_WIDTH), self._bottom + 44
-        parts = [
-            f'<svg xmlns="http://www.w3.org/2000/svg" width="{width}" height="{height}">\n{STYLE}',
-            '<rect class="g" width="100%" height="100%"/>',
+        return picture(
+            STYLE,
+            titled("rect", "", class_="g", width="100%", height="100%"),
             *self._frame(),
             *self._sleeps(),
             *self._times(),
@@ -113,8 +113,9 @@ class Picture:
             *self._marked(),
             *self._deadlines(),
             *self._legend(),
-        ]
-        return "\n".join([*parts, "</svg>\n"])
+            width=width,
+            height=height,
+        )
 
     # ------------------------------------------------------------ places
 
@@ -149,7 +150,7 @@ class Picture:
             yield _text(x + 3, 47, row.slot.removeprefix("T"))
             if row.cycle != self._first and (row.cycle % step or x < LEFT + TIME_WIDTH):
                 continue
-            yield f'<path class="l" d="M{x:g} 28V{self._bottom}"/>'
+            yield _path("l", x, 28, self._bottom)
             yield _text(x, 11, str(row.cycle)) + _text(x, 24, str(row.time))
 
     def _sleeps(self) -> Iterator[str]:
@@ -283,16 +284,13 @@ def _ink(turn: Turn) -> str:
 
 
 def _text(x: float, y: float, text: str, kind: str = "") -> str:
-    style = f' class="{kind}"' if kind else ""
-    return f'<text{style} x="{x:g}" y="{y:g}">{escape(text)}</text>'
+    style = {"class_": kind} if kind else {}
+    return written(text, **style, x=x, y=y)
 
 
 def _box(kind: str, x: float, y: float, width: float, height: float, title: str = "") -> str:
-    box = f'<rect class="{kind}" x="{x:g}" y="{y:g}" width="{width:g}" height="{height:g}"'
-    return f"{box}><title>{escape(title)}</title></rect>" if title else f"{box}/>"
+    return titled("rect", title, class_=kind, x=x, y=y, width=width, height=height)
 
 
-def _path(kind: str, x: float, top: float, bottom: float, title: str) -> str:
-    return (
-        f'<path class="{kind}" d="M{x:g} {top:g}V{bottom:g}"><title>{escape(title)}</title></path>'
-    )
+def _path(kind: str, x: float, top: float, bottom: float, title: str = "") -> str:
+    return titled("path", title, class_=kind, d=f"M{x:g} {top:g}V{bottom:g}")

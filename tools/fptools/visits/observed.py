@@ -17,6 +17,7 @@ from fptools.visits.claims import ClaimMeter, Passes
 from fptools.flow.records import Marks
 from fptools.files.trace_blocks import Block, BrokenTrace, Progress, Source, TraceReader, address
 from fptools.program.calls import Flexpret
+from fptools.program.status import Status
 from fptools.code.section import walk
 from fptools.files.setup import LoopTable, Setup
 from fptools.isa.turns import Turns, is_delay, turns_of
@@ -27,7 +28,6 @@ from fptools.visits.visits import (
 )  # fmt: skip
 
 PIPE_BYTES = 1 << 20
-WRITE_FAILED = 8  # the status of the program
 DEFAULT_PERIOD = 10  # nanoseconds
 LOOKED_AT = 32  # events of a block that are compared with the turns
 RETIRES = 4  # cycles from an issue to its line: the issues of as many last cycles of a run have none
@@ -357,7 +357,7 @@ def opened_run(flexpret: Flexpret, setup: Path, thread: int, cycles: int) -> Ite
                 if not source.is_at_end:
                     ran.terminate()
         # A program that is left before its end can't write the rest, which isn't its fault.
-        if ran.returncode > 0 and (source.is_at_end or ran.returncode != WRITE_FAILED):
+        if ran.returncode > 0 and (source.is_at_end or ran.returncode != Status.WRITE):
             errors.seek(0)
             text = source.tail if source.tail.startswith(b"refused") else errors.read()
             reason = "; ".join(line for line in text.decode("utf-8", "replace").splitlines() if line)

@@ -13,7 +13,7 @@ from pathlib import Path
 import pytest
 from fptools.testing.common import TOOLS, TOP, Tool
 from fptools.files.trace import read_trace
-from fptools.launch.tests.test_flexpret import Checkout
+from fptools.launch.tests.scripts import Checkout
 
 PROGRAM = Path(os.environ.get("LOOP_CLI", TOP / "crates/loop_cli/out/loop_cli"))
 """The built program."""

@@ -17,6 +17,7 @@ from fptools.testing.common import TOOLS, TOP, document
 
 
 from dev.gate import gate
+from dev.gate.parts import parts as parts_of_gate
 from fptools.evidence.clauses import Crates, NoClause, clauses_of, digest
 from fptools.evidence.evidence import (
     Evidence,
@@ -246,7 +247,7 @@ def test_what_is_trusted_is_that_of_the_assumptions() -> None:
 
 
 def test_comparisons_have_a_part_of_the_gate_a_commit_and_their_numbers() -> None:
-    parts = {part.name for part in gate.parts(1)}
+    parts = {part.name for part in parts_of_gate(1)}
     measured = document("MEASUREMENTS.md").read_text()
     for it in read_data()["comparison"]:
         assert it["part"] in parts

@@ -9,7 +9,6 @@ from fptools.files.elf import Function, Line, Program
 from fptools.flow.records import Claim, Kind, Mark, Marks, RecordError, read_records
 
 NOP, RET = 0x13, 0x8067
-BRANCH_BACK = 0xFE0008E3  # beq x0, x0, -16
 
 
 def record(

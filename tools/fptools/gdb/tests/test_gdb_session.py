@@ -14,7 +14,10 @@ from typing import Iterator
 
 import pytest
 from fptools.testing.common import TOP, TOOLS, document
-from fptools.gdb.tests.test_gdb import events_of, processes_of
+from fptools.gdb.tests.test_gdb import events_of
+from fptools.gdb.tests.test_gdb_ends import processes_of
+
+pytest_plugins = ["fptools.gdb.tests.fixtures"]
 
 GDB = "gdb-multiarch"
 PATIENCE = "set remotetimeout 60"  # seconds, for a busy machine

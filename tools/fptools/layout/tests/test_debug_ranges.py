@@ -15,7 +15,7 @@ from fptools.layout.assembly import Assembly, Fault
 from fptools.layout.debug_cells import Stream, Unread, cells, sections
 from fptools.layout.layout import Options, lay_out
 from fptools.testing.layout_shapes import CLANG, DATA, GCC, Way
-from fptools.layout.tests.test_layout import HEAD, function
+from fptools.layout.tests.codes import HEAD, function
 
 NAMES = ("triple", "sw_loop", "calls_in_loop")
 LEVELS = ("-O1", "-O2", "-Os", "-Og")
