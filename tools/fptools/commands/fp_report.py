@@ -31,7 +31,7 @@ import sys
 from pathlib import Path
 from subprocess import SubprocessError
 
-from fptools.budget.files import ValidationError, Verdict, fault_text, read_budgets
+from fptools.budget.files import Verdict, read_budgets
 from fptools.files.elf import Program, ProgramError
 from fptools.report.findings import NAME, Findings, NoReport, Question
 from fptools.limits import MOST_CYCLES
@@ -40,8 +40,7 @@ from fptools.report.page import html_of
 from fptools.report.timeline import MOST_WINDOW
 from fptools.files.image import ImageError
 from fptools.files.lint import read_valid
-from fptools.visits.observed import RunFailed
-from fptools.program.calls import HELP, Flexpret
+from fptools.program.calls import HELP, Flexpret, RunFailed
 from fptools.files.sources import Sources
 from fptools.files.trace_blocks import BrokenTrace
 from fptools.budget.whole import budgets_beside
@@ -50,7 +49,7 @@ from fptools.files.written import write_whole
 CYCLES = 1_000_000
 FAULTS = (
     *(OSError, ValueError, ImageError, ProgramError),
-    *(RunFailed, BrokenTrace, ValidationError, SubprocessError, NoReport),
+    *(RunFailed, BrokenTrace, SubprocessError, NoReport),
 )
 
 
@@ -162,7 +161,7 @@ def main() -> int:
         sys.stdout.flush()
         write_whole(asked.out, page)
     except FAULTS as fault:
-        print(f"{NAME}: {fault_text(fault, asked.budgets)}", file=sys.stderr)
+        print(f"{NAME}: {fault}", file=sys.stderr)
         return Verdict.UNKNOWN
     except KeyboardInterrupt:
         print(f"{NAME}: stopped: nothing was written", file=sys.stderr)

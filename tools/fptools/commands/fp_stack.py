@@ -33,7 +33,7 @@ import argparse
 import sys
 from pathlib import Path
 
-from fptools.budget.files import ValidationError, Verdict
+from fptools.budget.files import Verdict
 from fptools.files.elf import Program, ProgramError, other_word
 from fptools.files.image import ImageError, read_image
 from fptools.files.lint import read_valid
@@ -80,7 +80,7 @@ def main() -> int:
         found = found_for(asked)
         print(stacks_as_json(found)) if asked.json else print(*found, sep="\n")
         sys.stdout.flush()
-    except (OSError, ValueError, ImageError, ProgramError, ValidationError) as fault:
+    except (OSError, ValueError, ImageError, ProgramError) as fault:
         print(f"fp_stack: {fault}", file=sys.stderr)
         return Verdict.UNKNOWN
     for stack in found:
