@@ -5,15 +5,13 @@ import tempfile
 from dataclasses import dataclass, field
 from functools import cached_property
 from pathlib import Path
-from typing import Mapping, Sequence
+from typing import TYPE_CHECKING, Mapping, Sequence
 
 from fptools.program.answers import Bound, NoAnswer, Refusal, read_answer
 from fptools.budget.files import Assumption, Budget, LoopFact, Result, Verdict
 from fptools.files.elf import Program, ProgramError, other_word
 from fptools.flow.inference import Inference, StatedLoop
 from fptools.code.moved import NoLines, NotKnown, moved_word
-from fptools.budget.path_facts import PathFacts, facts_of
-from fptools.budget.paths import Search
 from fptools.program.calls import Answer, Flexpret
 from fptools.code.returns import wrong_return
 from fptools.code.section import Exit, Loop, Section, WayOut, walk_all
@@ -25,6 +23,9 @@ from fptools.stack.stacks import Stack, Stacks
 from fptools.code.thread import Code, ThreadCode, entries_of
 from fptools.code.values import clobbered_by
 from fptools.isa.words import MRET, OPCODE_AUIPC, OPCODE_JALR, OPCODE_LOAD, RETURN_ADDRESS
+
+if TYPE_CHECKING:
+    from fptools.budget.path_facts import PathFacts
 
 __all__ = ["HELP", "Assumption", "Budget", "Judge", "Result", "Unknown", "Verdict"]
 
@@ -138,6 +139,9 @@ class Judge:
 
     def _path(self, asked: Asked, bound: int) -> PathFacts:
         """The path that costs the bound, by a search of its own."""
+        from fptools.budget.path_facts import facts_of
+        from fptools.budget.paths import Search
+
         search = Search(self.setup, asked.budget.thread, self.image, asked.parts)
         return facts_of(search, bound, self.program, self.sources)
 

@@ -7,14 +7,12 @@ from pathlib import Path
 from typing import TYPE_CHECKING
 
 from fptools import require
+from fptools.files.schemas import best, faults
 from fptools.files.setup import spelled
-from fptools.files.toml import faults, read_toml
+from fptools.files.toml import read_toml
 from fptools.untyped import Values
 
 require("jsonschema")
-
-import jsonschema
-from jsonschema import ValidationError as ValidationError
 
 if TYPE_CHECKING:
     from fptools.budget.path_facts import PathFacts
@@ -126,19 +124,13 @@ class Result:
 
 
 def read_budgets(path: Path, period: int) -> list[Budget]:
-    """The budgets of a file; nanoseconds are cycles of the period, rounded down."""
+    """The budgets of a file; nanoseconds are cycles of the period, rounded down. A fault is a
+    ValueError with its key."""
     _, values = read_toml(path)
-    fault = jsonschema.exceptions.best_match(faults(SCHEMA, values))
+    fault = best(faults(SCHEMA, values))
     if fault:
-        raise fault
+        raise ValueError(f"{path}: {spelled(tuple(fault.absolute_path))}: {fault.message}")
     return [_budget(table, period) for table in values["budget"]]
-
-
-def fault_text(fault: Exception, budgets: Path | None) -> str:
-    """The message for a fault. One in a file of budgets has its key."""
-    if isinstance(fault, ValidationError):
-        return f"{budgets}: {spelled(tuple(fault.absolute_path))}: {fault.message}"
-    return str(fault)
 
 
 def _budget(table: Values, period: int) -> Budget:

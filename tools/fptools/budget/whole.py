@@ -17,7 +17,8 @@ from typing import Sequence
 
 from fptools.budget.files import Assumption, Budget, PeriodOf, Result, Verdict
 from fptools.budget.budgets import Judge
-from fptools.period.periods import judged, results_of
+from fptools.budget.judged import judged
+from fptools.period.periods import results_of
 from fptools.files.setup import Setup, ThreadTable
 from fptools.stack.stacks import Stack
 from fptools.isa.turns import DISABLED

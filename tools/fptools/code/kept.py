@@ -154,7 +154,7 @@ class Called:
             pc = ahead.pop()
             frame = self._after(part.reached[pc], before[pc], first)
             for to in part.graph[pc]:
-                is_joined = to == part.start or part.graph.in_degree(to) > 1
+                is_joined = to == part.start or len(part.graph.predecessors(to)) > 1
                 is_new = to not in before or not is_joined
                 new = frame if is_new else _joined(to, before[to], frame)
                 if before.get(to) != new:

@@ -4,14 +4,10 @@ from __future__ import annotations
 from collections import defaultdict
 from dataclasses import dataclass, field, replace
 from enum import Enum
-from typing import Collection, Hashable, Mapping, Protocol
+from typing import Collection, Mapping, Protocol
 
-from fptools import require
+from fptools.code.digraph import Dominators, Graph
 from fptools.isa.words import RETURN, Flow, Word
-
-require("networkx")
-
-import networkx
 
 
 class Function(Protocol):
@@ -85,7 +81,7 @@ class Section:
     loops: list[Loop] = field(default_factory=list)
     ways_out: list[WayOut] = field(default_factory=list)
     callees: set[int] = field(default_factory=set)
-    graph: networkx.DiGraph = field(default_factory=networkx.DiGraph)
+    graph: Graph[int] = field(default_factory=Graph[int])
 
     def holds(self, address: int) -> bool:
         return self.start <= address < self.end
@@ -166,29 +162,7 @@ def _loops(section: Section) -> list[Loop]:
     return _with_inner(loops)
 
 
-class Dominators:
-    """Which words each path from the first word to another passes. Nodes of a graph may be of any kind."""
-
-    def __init__(self, graph: networkx.DiGraph, start: Hashable) -> None:
-        tree = networkx.DiGraph()
-        tree.add_node(start)
-        for word, above in networkx.immediate_dominators(graph, start).items():
-            if word != start:
-                tree.add_edge(above, word)
-        self.begins: dict[Hashable, int] = {}
-        self.finishes: dict[Hashable, int] = {}
-        for at, (_, word, kind) in enumerate(networkx.dfs_labeled_edges(tree, start)):
-            if kind == "forward":
-                self.begins[word] = at
-            elif kind == "reverse":
-                self.finishes[word] = at
-
-    def has(self, above: Hashable, below: Hashable) -> bool:
-        """Whether each path to `below` passes `above`, which it does to itself."""
-        return self.begins[above] <= self.begins[below] and self.finishes[below] <= self.finishes[above]
-
-
-def _body(graph: networkx.DiGraph, head: int, backs: Collection[int]) -> set[int]:
+def _body(graph: Graph[int], head: int, backs: Collection[int]) -> set[int]:
     """The words from which a back edge is reached without passing the head, and the head."""
     body, ahead = {head}, list(backs)
     while ahead:

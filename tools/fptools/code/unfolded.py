@@ -10,18 +10,14 @@ from dataclasses import dataclass, field
 from functools import cached_property
 from typing import NamedTuple
 
-from fptools import require
 from fptools.files.elf import Function, Program
 from fptools.code.returns import wrong_return
-from fptools.code.section import Dominators, Exit, Section, walk
+from fptools.code.digraph import Dominators, Graph
+from fptools.code.section import Exit, Section, walk
 from fptools.limits import LARGE
 from fptools.code.thread import Code, reach
 from fptools.code.values import clobbered_by
 from fptools.isa.words import FUNCT3_WAITS, OPCODE_TIMING, RETURN, Flow, Word
-
-require("networkx")
-
-import networkx
 
 FUNCT3_DELAY, FUNCT3_WAIT = FUNCT3_WAITS
 MOST_CALLS = 16
@@ -189,12 +185,9 @@ class Unfolded:
         return walk(self.code.words, start, function.end, heads, is_function=True)
 
     @cached_property
-    def graph(self) -> networkx.DiGraph:
-        graph = networkx.DiGraph()
-        graph.add_node(self.first)
-        for place, step in self.steps.items():
-            graph.add_edges_from((place, to) for to in step.ends)
-        return graph
+    def graph(self) -> Graph[Place]:
+        edges = ((place, to) for place, step in self.steps.items() for to in step.ends)
+        return Graph(edges, [self.first])
 
     @cached_property
     def rings(self) -> list[Ring]:
@@ -221,7 +214,7 @@ class Unfolded:
         """The waits that a cycle leads back to which isn't inside of a natural loop: one that is
         entered at several words."""
         bodies = {ring.body for ring in self.rings}
-        parts = networkx.strongly_connected_components(self.graph)
+        parts = self.graph.parts()
         cycles = [frozenset(it) for it in parts if len(it) > 1]
         tangled = set().union(*(it for it in cycles if it not in bodies))
         return [it for it in self.waits if it in tangled]

@@ -76,29 +76,25 @@ import argparse
 import sys
 import tempfile
 from pathlib import Path
-from typing import Mapping, NoReturn, Sequence
+from typing import TYPE_CHECKING, Mapping, NoReturn, Sequence
 
 from fptools.commands.common import Parser, failed, new_parser
 from fptools.budget.files import (
-    Assumption, Budget, PeriodOf, Result, ValidationError, Verdict, fault_text, read_budgets,
+    Assumption, Budget, PeriodOf, Result, Verdict, read_budgets,
 )  # fmt: skip
-from fptools.budget.runs import Runs
 from fptools.budget.budgets import Judge
 from fptools.files.elf import Program, ProgramError
 from fptools.files.image import ImageError, read_image
 from fptools.files.lint import read_valid
+from fptools.budget.judged import judged
 from fptools.budget.names import Names
-from fptools.visits.observed import RunFailed
-from fptools.budget.path_facts import path_text
-from fptools.period.periods import judged, results_of
-from fptools.program.calls import HELP, Flexpret
-from fptools.budget.reports import as_json, junit
+from fptools.program.calls import HELP, Flexpret, RunFailed
 from fptools.files.setup import Setup
 from fptools.files.sources import Sources
-from fptools.budget.whole import BUDGETS, ThreadAnswer, Whole, budgets_beside
-from fptools.budget.whole_text import table_of, threads_fields
-from fptools.files.written import write_whole
 from fptools.limits import MOST_CYCLES
+
+if TYPE_CHECKING:
+    from fptools.budget.whole import ThreadAnswer
 
 QUIET = "bounds hold while no instruction writes slots, modes or regions"
 
@@ -220,11 +216,15 @@ def with_runs(asked: argparse.Namespace, judge: Judge, found: list[Result]) -> l
     """The results, compared with runs where that is asked for."""
     if asked.runs is None:
         return found
+    from fptools.budget.runs import Runs
+
     return Runs(judge.flexpret, judge.setup, judge.image, judge.program, asked.runs).compared(found)
 
 
 def of_all(asked: argparse.Namespace) -> tuple[list[Result], list[ThreadAnswer]]:
     """The results for all hard threads, and the answers by threads."""
+    from fptools.budget.whole import BUDGETS, Whole, budgets_beside
+
     judge = judge_of(asked)
     if asked.budgets is None:
         asked.budgets = budgets_beside(asked.setup)
@@ -256,6 +256,8 @@ def of_names(asked: argparse.Namespace) -> list[Result]:
     with tempfile.TemporaryDirectory() as folder:
         names = Names(flexpret, setup, image, program, sources, Path(folder), asked.path)
         if asked.period:
+            from fptools.period.periods import results_of
+
             judge = Judge(flexpret, setup, image, program, sources, has_paths=asked.path)
             found = [it for budget in period_budgets(asked, cycles) for it in results_of(judge, budget)]
         elif not asked.function:
@@ -267,6 +269,8 @@ def of_names(asked: argparse.Namespace) -> list[Result]:
             found = [names.function(budget.name, budget) for budget in budgets]
     if asked.runs is None:
         return found
+    from fptools.budget.runs import Runs
+
     return Runs(flexpret, setup, image, program, asked.runs, True, bool(asked.function)).compared(found)
 
 
@@ -291,9 +295,12 @@ def write(
         if fault is not None:
             print(f"fp_budget: {fault}", file=sys.stderr)
         if asked.junit:
+            from fptools.budget.reports import junit
+            from fptools.files.written import write_whole
+
             write_whole(asked.junit, junit(found, (asked.setup or asked.file).name, fault, stacks))
         if asked.json:
-            print(as_json(found, fault, threads_fields(threads) if asked.all else None))
+            write_json(found, fault, threads if asked.all else None)
         elif asked.all:
             write_all(found, threads)
         else:
@@ -311,8 +318,24 @@ def write(
     return max(verdicts, default=Verdict.UNKNOWN)
 
 
+def write_json(
+    found: list[Result], fault: str | None, threads: Sequence[ThreadAnswer] | None
+) -> None:
+    """The results as a JSON document, with the threads where all of them are asked for."""
+    from fptools.budget.reports import as_json
+
+    fields = None
+    if threads is not None:
+        from fptools.budget.whole_text import threads_fields
+
+        fields = threads_fields(threads)
+    print(as_json(found, fault, fields))
+
+
 def write_all(found: list[Result], threads: Sequence[ThreadAnswer]) -> None:
     """The table of threads, and a line for each answer."""
+    from fptools.budget.whole_text import table_of
+
     print(*table_of(threads), "", sep="\n")
     for it in threads:
         write_text([one for one in found if one.budget.thread == it.table.id], False)
@@ -338,13 +361,15 @@ def write_text(found: list[Result], has_parts: bool) -> None:
             *([f"stack {result.stack.shown}"] if result.stack else []),
         ] * has_parts:
             print(f"         {text}")
-        for text in path_text(result.path) if result.path else ():
-            print(f"         {text}")
+        if result.path:
+            from fptools.budget.path_facts import path_text
+
+            print(*(f"         {text}" for text in path_text(result.path)), sep="\n")
 
 
 def main() -> int:
     asked = parse()
-    threads = list[ThreadAnswer]()
+    threads: list[ThreadAnswer] = []
     try:
         if asked.all:
             found, threads = of_all(asked)
@@ -352,6 +377,6 @@ def main() -> int:
             found = of_budgets(asked)
         else:
             found = of_names(asked)
-    except (OSError, ValueError, ImageError, ProgramError, RunFailed, ValidationError) as fault:
-        return write(asked, [], fault_text(fault, asked.budgets))
+    except (OSError, ValueError, ImageError, ProgramError, RunFailed) as fault:
+        return write(asked, [], str(fault))
     return write(asked, found, None, threads)

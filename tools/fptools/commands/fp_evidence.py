@@ -36,9 +36,8 @@ import tempfile
 from pathlib import Path
 from subprocess import SubprocessError
 
-
 from fptools.commands.common import failed, new_parser
-from fptools.budget.files import Result, ValidationError, Verdict, fault_text, read_budgets
+from fptools.budget.files import Result, Verdict, read_budgets
 from fptools.budget.runs import Runs
 from fptools.budget.budgets import Judge
 from fptools.files.elf import Program, ProgramError, other_word
@@ -56,9 +55,8 @@ from fptools.evidence.evidence import (
 from fptools.evidence.page import html_of
 from fptools.files.image import ImageError, read_image
 from fptools.files.lint import read_valid
-from fptools.visits.observed import RunFailed
-from fptools.period.periods import judged
-from fptools.program.calls import HELP, Flexpret
+from fptools.budget.judged import judged
+from fptools.program.calls import HELP, Flexpret, RunFailed
 from fptools.budget.reports import data_of
 from fptools.files.setup import Setup
 from fptools.files.sources import Sources
@@ -69,7 +67,7 @@ NAME = "fp_evidence"
 MARK = "evidence.json"
 FAULTS = (
     *(OSError, ValueError, ImageError, ProgramError, NoClause),
-    *(RunFailed, ValidationError, SubprocessError),
+    *(RunFailed, SubprocessError),
 )
 
 
@@ -249,5 +247,5 @@ def main() -> int:
         print(*results, sep="\n")
         sys.stdout.flush()
     except FAULTS as fault:
-        return failed(NAME, fault_text(fault, asked.budgets), Verdict.UNKNOWN)
+        return failed(NAME, fault, Verdict.UNKNOWN)
     return max((it.verdict for it in results), default=Verdict.UNKNOWN)

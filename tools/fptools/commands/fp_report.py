@@ -32,7 +32,7 @@ from pathlib import Path
 from subprocess import SubprocessError
 
 from fptools.commands.common import failed, new_parser
-from fptools.budget.files import ValidationError, Verdict, fault_text, read_budgets
+from fptools.budget.files import Verdict, read_budgets
 from fptools.files.elf import Program, ProgramError
 from fptools.report.findings import NAME, Findings, NoReport, Question
 from fptools.limits import MOST_CYCLES
@@ -41,8 +41,7 @@ from fptools.report.page import html_of
 from fptools.report.timeline import MOST_WINDOW
 from fptools.files.image import ImageError
 from fptools.files.lint import read_valid
-from fptools.visits.observed import RunFailed
-from fptools.program.calls import HELP, Flexpret
+from fptools.program.calls import HELP, Flexpret, RunFailed
 from fptools.files.sources import Sources
 from fptools.files.trace_blocks import BrokenTrace
 from fptools.budget.whole import budgets_beside
@@ -51,7 +50,7 @@ from fptools.files.written import write_whole
 CYCLES = 1_000_000
 FAULTS = (
     *(OSError, ValueError, ImageError, ProgramError),
-    *(RunFailed, BrokenTrace, ValidationError, SubprocessError, NoReport),
+    *(RunFailed, BrokenTrace, SubprocessError, NoReport),
 )
 
 
@@ -152,7 +151,7 @@ def main() -> int:
         sys.stdout.flush()
         write_whole(asked.out, page)
     except FAULTS as fault:
-        return failed(NAME, fault_text(fault, asked.budgets), Verdict.UNKNOWN)
+        return failed(NAME, fault, Verdict.UNKNOWN)
     except KeyboardInterrupt:
         return failed(NAME, "stopped: nothing was written", Verdict.UNKNOWN)
     verdicts = [*(it.result.verdict for it in findings.found), *(it.verdict for it in stacks)]

@@ -34,7 +34,7 @@ import sys
 from pathlib import Path
 
 from fptools.commands.common import failed, new_parser
-from fptools.budget.files import ValidationError, Verdict
+from fptools.budget.files import Verdict
 from fptools.files.elf import Program, ProgramError, other_word
 from fptools.files.image import ImageError, read_image
 from fptools.files.lint import read_valid
@@ -79,7 +79,7 @@ def main() -> int:
         found = found_for(asked)
         print(stacks_as_json(found)) if asked.json else print(*found, sep="\n")
         sys.stdout.flush()
-    except (OSError, ValueError, ImageError, ProgramError, ValidationError) as fault:
+    except (OSError, ValueError, ImageError, ProgramError) as fault:
         return failed("fp_stack", fault, Verdict.UNKNOWN)
     for stack in found:
         for note in stack.notes:

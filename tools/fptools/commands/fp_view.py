@@ -31,8 +31,7 @@ from fptools.launch.view import MOST_CYCLE
 from fptools.files.elf import Program, ProgramError, other_word
 from fptools.files.image import ImageError, read_image
 from fptools.files.labels import named_by
-from fptools.visits.observed import RunFailed
-from fptools.program.calls import HELP, Flexpret
+from fptools.program.calls import HELP, Flexpret, RunFailed
 from fptools.files.setup import read_setup
 from fptools.files.sources import Sources
 from fptools.files.trace_blocks import BrokenTrace

@@ -42,7 +42,7 @@ from fptools.commands.common import Parser, failed, let_reader_go, new_parser
 from fptools.program.status import CANNOT
 from fptools.files.trace_blocks import Live, Progress, TraceReader
 from fptools.budget.bounds import called_functions, with_bound
-from fptools.budget.files import Result, ValidationError, read_budgets
+from fptools.budget.files import Result, read_budgets
 from fptools.budget.budgets import Judge
 from fptools.visits.claims import marks_for
 from fptools.files.elf import Function, ProgramError, other_word
@@ -54,17 +54,16 @@ from fptools.visits.observed import (
     DEFAULT_PERIOD,
     Observation,
     Question,
-    RunFailed,
     observe,
     question_of,
     run_and_observe,
 )
 from fptools.visits.text import Text, as_csv, as_data
 from fptools.period.runs import PeriodRuns
-from fptools.period.periods import judged
-from fptools.program.calls import HELP, Flexpret
+from fptools.budget.judged import judged
+from fptools.program.calls import HELP, Flexpret, RunFailed
 from fptools.budget.reports import data_of
-from fptools.files.setup import Setup, spelled
+from fptools.files.setup import Setup
 from fptools.files.sources import Sources
 from fptools.limits import MOST_CYCLES
 from fptools.visits.visits import Watched
@@ -375,12 +374,6 @@ def main() -> int:
     except BrokenPipeError:
         let_reader_go()
         return 0
-    except ValidationError as fault:
-        print(
-            f"{NAME}: {options.budgets}: {spelled(tuple(fault.absolute_path))}: {fault.message}",
-            file=sys.stderr,
-        )
-        return CANNOT
     except (OSError, ValueError, ImageError, ProgramError, RunFailed, Unclear) as fault:
         return failed(NAME, fault)
     return status

@@ -11,7 +11,7 @@ from fptools.flow.counts import count_of_straight, jumps_of
 from fptools.files.image import ImageError, read_image
 from fptools.files.setup import KeyPath, Setup, read_setup, spelled
 from fptools.limits import DATA_START, LARGE
-from fptools.files.toml import faults
+from fptools.files.schemas import faults
 from fptools.isa.words import Flow, Word
 from fptools.untyped import Values
 

@@ -55,7 +55,8 @@ class Window:
     def lines(self, thread: int, start: int, end: int) -> bytes:
         """The lines of a thread from a cycle on and before another."""
         text = self.texts[thread]
-        return text[offset_of(text, start) : offset_of(text, end)]
+        first = offset_of(text, start) if start > self.first else 0
+        return text[first : offset_of(text, end) if end < self.end else len(text)]
 
     def next_line(self, thread: int, cycle: int) -> bytes:
         """The first line of a thread in or after a cycle."""
@@ -82,6 +83,8 @@ class History:
 
     def window(self, number: int) -> Window:
         """The window of the cycles from `number * WINDOW` on."""
+        for stream in self._streams:
+            stream.aim = (number + 1) * WINDOW
         while number >= len(self._offsets[0]):
             self._keep(len(self._offsets[0]), self._read(self._streams, len(self._offsets[0])))
         if number not in self._kept:

@@ -124,7 +124,7 @@ class Monitor:
             raise Misuse(f"{text} python3-{missing[0]} isn't installed, by which fp_budget bounds it")
         from fptools.budget.budgets import Assumption, Budget, Judge, Verdict
         from fptools.files.image import read_image
-        from fptools.period.periods import judged
+        from fptools.budget.judged import judged
         from fptools.files.setup import read_setup
 
         runs = self.machine.runs

@@ -123,16 +123,16 @@ def _mark(path: Path) -> tuple[int, int, int]:
 
 def last_cycle(text: bytes) -> int:
     """The cycle of the last whole line of a trace; -1 where there is none."""
-    line = last_line(text[: text.rfind(b"\n") + 1])
-    return int(line[CYCLE]) if line else -1
+    end = text.rfind(b"\n")
+    start = text.rfind(b"\n", 0, max(end, 0)) + 1
+    return int(text[start : start + CYCLE.stop]) if end >= 0 else -1
 
 
-def offset_of(text: bytes, cycle: int) -> int:
-    """Where the first line of a cycle or a later one begins in whole lines."""
-    low, high = 0, len(text)
+def offset_of(text: bytes, cycle: int, end: int | None = None) -> int:
+    """Where the first line of a cycle or a later one begins in whole lines, which end there."""
+    low, high = 0, len(text) if end is None else end
     while low < high:
-        middle = (low + high) // 2
-        start = max(text.rfind(b"\n", low, middle) + 1, low)
+        start = text.rfind(b"\n", low, (low + high) // 2) + 1 or low
         if int(text[start : start + CYCLE.stop]) < cycle:
             low = text.index(b"\n", start) + 1
         else:
@@ -154,6 +154,7 @@ class Stream:
         self._runs, self._thread = runs, thread
         self.offset = offset  # how many bytes of the trace were passed or taken
         self.before = b""  # the last line of them
+        self.aim = 0  # a cycle up to which it will be filled
         self._cycles = min(cycles, runs.most)
         self._rest = b""
         self._call: Call | None = None
@@ -166,8 +167,7 @@ class Stream:
 
     def take(self, cycle: int) -> bytes:
         """The lines before a cycle, up to which the stream is filled, that weren't taken yet."""
-        whole = self._rest[: self._rest.rfind(b"\n") + 1]
-        taken = whole[: offset_of(whole, cycle)]
+        taken = self._rest[: offset_of(self._rest, cycle, self._rest.rfind(b"\n") + 1)]
         self._rest = self._rest[len(taken) :]
         self.offset += len(taken)
         self.before = last_line(taken) or self.before
@@ -186,9 +186,10 @@ class Stream:
     def _read_on(self) -> None:
         if self._is_ended:
             self.close()
-            self._cycles = min(self._cycles * LONGER, self._runs.most)
+            self._cycles *= LONGER
         if self._call is None:
             is_first = not self._rest
+            self._cycles = min(max(self._cycles, 2 * self.aim), self._runs.most)
             self._call = self._runs.trace(self._thread, self._cycles)
             passed = self._pass(self._call, self.offset + len(self._rest))
             self.before = self.before or (last_line(passed) if is_first else b"")

@@ -4,14 +4,10 @@ from __future__ import annotations
 from collections.abc import Iterable, Iterator
 from dataclasses import dataclass
 
-from fptools import require
+from fptools.code.digraph import Graph
 from fptools.layout.assembly import Stays
 from fptools.layout.blocks import Block, Item, Part
 from fptools.layout.regions import Flows, Loop, Nest, Section
-
-require("networkx")
-
-import networkx
 
 MOST_CANDIDATES = 16
 """So many entries of a loop are tried as its head."""
@@ -56,10 +52,10 @@ def _length(block: Block) -> int:
 
 def _second_entries(flows: Flows) -> Iterator[Entry]:
     """A second entry of each outermost loop that has several."""
-    ahead = [networkx.DiGraph(flows.edges())]
+    ahead = [Graph(flows.edges())]
     while ahead:
         part = ahead.pop()
-        for inside in sorted(networkx.strongly_connected_components(part), key=min):
+        for inside in sorted(part.parts(), key=min):
             if len(inside) > 1:
                 entries = [it for it in sorted(inside) if not set(flows.before[it]) <= inside]
                 head = _best_head(flows, inside, entries)
@@ -67,7 +63,7 @@ def _second_entries(flows: Flows) -> Iterator[Entry]:
                 if others:
                     yield Entry(others[0], inside, sorted(_before_head(flows, inside, others[:1], head)))
                 else:
-                    ahead.append(part.subgraph(inside - {head}).copy())
+                    ahead.append(part.subgraph(inside - {head}))
 
 
 def _best_head(flows: Flows, inside: set[int], entries: list[int]) -> int:

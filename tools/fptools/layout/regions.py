@@ -6,13 +6,8 @@ from collections import defaultdict
 from collections.abc import Iterable, Sequence
 from dataclasses import dataclass, field
 
-from fptools import require
+from fptools.code.digraph import Dominators, Graph
 from fptools.layout.blocks import Block
-
-require("networkx")
-
-import networkx
-
 
 MOST_AROUND = 3
 """A loop may lie in so many others, for the analyser."""
@@ -94,30 +89,6 @@ class Flows:
         return found
 
 
-class Dominators:
-    """The dominator tree, with the times at which a depth-first search opens and closes each node."""
-
-    def __init__(self, flows: Flows) -> None:
-        graph = networkx.DiGraph(flows.edges())
-        graph.add_node(0)
-        below: dict[int, list[int]] = defaultdict(list)
-        for index, above in networkx.immediate_dominators(graph, 0).items():
-            if index != above:
-                below[above].append(index)
-        self.opened: dict[int, int] = {}
-        self.closed: dict[int, int] = {}
-        ahead, clock = [(0, False)], 0
-        while ahead:
-            index, is_done = ahead.pop()
-            (self.closed if is_done else self.opened)[index] = clock
-            clock += 1
-            if not is_done:
-                ahead += [(index, True), *((it, False) for it in below[index])]
-
-    def dominates(self, one: int, other: int) -> bool:
-        return self.opened[one] <= self.opened[other] and self.closed[other] <= self.closed[one]
-
-
 @dataclass
 class Nest:
     """The loops of a function by their heads, and the innermost loop of each block. Raises Irreducible."""
@@ -128,8 +99,8 @@ class Nest:
     back_edges: set[tuple[int, int]] = field(init=False)
 
     def __post_init__(self) -> None:
-        dominators = Dominators(self.flows)
-        self.back_edges = {it for it in self.flows.edges() if dominators.dominates(it[1], it[0])}
+        dominators = Dominators(Graph(self.flows.edges(), [0]), 0)
+        self.back_edges = {it for it in self.flows.edges() if dominators.has(it[1], it[0])}
         self._refuse_irreducible()
         self.loops = {head: Loop(head, {head}) for head in sorted({head for _, head in self.back_edges})}
         for last, head in self.back_edges:

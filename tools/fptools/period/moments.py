@@ -113,7 +113,7 @@ class Moments:
                 continue
             state = self._after(place, step, before[place])
             for to in step.ends:
-                is_joined = to in starts or self.unfolded.graph.in_degree(to) > 1
+                is_joined = to in starts or len(self.unfolded.graph.predecessors(to)) > 1
                 new = _joined(to, before[to], state) if is_joined and to in before else state
                 if before.get(to) != new:
                     before[to] = new

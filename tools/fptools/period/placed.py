@@ -11,16 +11,12 @@ import heapq
 from dataclasses import dataclass, field
 from typing import Mapping
 
-from fptools import require
+from fptools.code.digraph import Graph
 from fptools.period.wait_paths import Node, Paths
 from fptools.code.section import walk
 from fptools.limits import LARGE
 from fptools.code.unfolded import NotUnfolded, Place, is_wait
 from fptools.isa.words import OPCODE_BRANCH, OPCODE_JAL, RETURN_ADDRESS, Flow, Word
-
-require("networkx")
-
-import networkx
 
 Key = tuple[int, tuple[int, ...]]
 NOP = 0x0000_0013  # addi x0, x0, 0: lag 1
@@ -62,7 +58,7 @@ class Order:
     nodes: list[Node] = field(default_factory=list)
     loops: list[tuple[Node, frozenset[Node]]] = field(default_factory=list)
 
-    def add(self, graph: networkx.DiGraph, first: Node) -> list[Node]:
+    def add(self, graph: Graph[Node], first: Node) -> list[Node]:
         """Orders the nodes of a graph that is entered at its first node."""
         units = self._units(graph, first)
         unit_of = {node: at for at, unit in enumerate(units) for node in unit}
@@ -109,10 +105,10 @@ class Order:
         place = self.paths.step(node).onward
         return None if place is None else self.paths.to(node, place)
 
-    def _units(self, graph: networkx.DiGraph, first: Node) -> list[list[Node]]:
+    def _units(self, graph: Graph[Node], first: Node) -> list[list[Node]]:
         """The nodes one by one, and the loops, each in order."""
         units = []
-        for part in networkx.strongly_connected_components(graph):
+        for part in graph.parts():
             (node, *more) = part
             if not more and not graph.has_edge(node, node):
                 units.append([node])
@@ -120,7 +116,7 @@ class Order:
             units.append(self._loop(graph, frozenset(part), first))
         return units
 
-    def _loop(self, graph: networkx.DiGraph, part: frozenset[Node], first: Node) -> list[Node]:
+    def _loop(self, graph: Graph[Node], part: frozenset[Node], first: Node) -> list[Node]:
         heads = {to for one, to in graph.edges if to in part and one not in part} | ({first} & part)
         if len(heads) != 1:
             at = min((it.place.pc for it in heads), default=0)
@@ -129,9 +125,8 @@ class Order:
             )
         (head,) = heads
         self.loops.append((head, part))
-        inner = networkx.DiGraph(graph.subgraph(part))
-        inner.remove_edges_from([(one, to) for one, to in inner.edges if to == head])
-        return self.add(inner, head)
+        within = graph.subgraph(part)
+        return self.add(Graph((it for it in within.edges if it[1] != head), within), head)
 
 
 @dataclass
@@ -139,7 +134,7 @@ class Placer:
     """Places the words of paths up to one of their ends, from an address on."""
 
     paths: Paths
-    graph: networkx.DiGraph
+    graph: Graph[Node]
     end: Node
     start: int
     at: dict[Node, int] = field(default_factory=dict)

@@ -14,7 +14,6 @@ from fptools.files.trace import CAUSES
 from fptools.files.trace_blocks import Block, BrokenTrace, Progress, TraceReader
 from fptools.isa.turns import turns_of
 from fptools.visits.visits import TrapMeter, WaitJudge, measure
-from fptools.isa.words import FUNCT3_WAITS
 
 
 @dataclass
@@ -47,11 +46,7 @@ class PeriodMeter:
     def take(self, block: Block) -> None:
         for it in self.judge.judged(block):
             for waits, seen in zip(self.loops, self.seen):
-                if (
-                    it.word.pc in waits
-                    and it.word.funct3 == FUNCT3_WAITS[1]
-                    and it.moment is not None
-                ):
+                if it.pc in waits and not it.is_delay and it.moment is not None:
                     self._add(seen, it.first, it.moment)
                 else:
                     seen.begun = None

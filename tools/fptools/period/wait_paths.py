@@ -9,13 +9,9 @@ from dataclasses import dataclass, field
 from functools import cached_property
 from typing import Collection, NamedTuple
 
-from fptools import require
+from fptools.code.digraph import Graph
 from fptools.code.unfolded import Place, Step, Unfolded, is_wait
 from fptools.isa.words import Flow, Word
-
-require("networkx")
-
-import networkx
 
 
 class Node(NamedTuple):
@@ -39,7 +35,7 @@ class Paths:
     unfolded: Unfolded
     begin: Place
     closed: Collection[Place] = ()
-    graph: networkx.DiGraph = field(default_factory=networkx.DiGraph)
+    graph: Graph[Node] = field(default_factory=Graph[Node])
 
     def __post_init__(self) -> None:
         self.graph.add_node(self.first)
@@ -86,9 +82,9 @@ class Paths:
         """The nodes of the next waits."""
         return sorted((it for it in self.graph if self.is_end(it)), key=lambda it: it.key)
 
-    def leading_to(self, end: Node) -> networkx.DiGraph:
+    def leading_to(self, end: Node) -> Graph[Node]:
         """The part of the graph that leads to an end."""
-        kept = networkx.ancestors(self.graph, end) | {end}
+        kept = self.graph.ancestors(end) | {end}
         return self.graph.subgraph(kept)
 
     @cached_property
@@ -103,9 +99,8 @@ class Paths:
         go round for ever."""
         reaching: set[Node] = set(self.ends)
         for end in self.ends:
-            reaching |= networkx.ancestors(self.graph, end)
-        ordered = networkx.bfs_tree(self.graph, self.first)
-        return [it for it in ordered if it not in reaching]
+            reaching |= self.graph.ancestors(end)
+        return [it for it in self.graph.reached(self.first) if it not in reaching]
 
     @property
     def calls(self) -> set[int]:

@@ -14,6 +14,10 @@ BESIDE = TOP / "flexpret"
 HELP = "the program; if left out, what the variable FLEXPRET names, or the ./flexpret of this repository"
 
 
+class RunFailed(Exception):
+    """The program couldn't give the trace of a run."""
+
+
 @dataclass(frozen=True)
 class Answer:
     """An exit status with standard output, which is the answer, and standard error, without line feeds

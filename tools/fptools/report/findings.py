@@ -15,7 +15,7 @@ from fptools.report.issues import Span, Spot, read_issues, spots_of
 from fptools.report.timeline import MOST_WINDOW, Painter, Timeline
 from fptools.files.image import read_image
 from fptools.visits.observed import Observation
-from fptools.period.periods import judged
+from fptools.budget.judged import judged
 from fptools.program.calls import Flexpret
 from fptools.files.setup import Setup
 from fptools.view.events import Columns

@@ -16,7 +16,7 @@ from typing import IO, Collection, Iterator, Mapping, Sequence
 from fptools.visits.claims import ClaimMeter, Passes
 from fptools.flow.records import Marks
 from fptools.files.trace_blocks import Block, BrokenTrace, Progress, Source, TraceReader, address
-from fptools.program.calls import Flexpret
+from fptools.program.calls import Flexpret, RunFailed
 from fptools.program.status import Status
 from fptools.code.section import walk
 from fptools.files.setup import LoopTable, Setup
@@ -31,10 +31,6 @@ PIPE_BYTES = 1 << 20
 DEFAULT_PERIOD = 10  # nanoseconds
 LOOKED_AT = 32  # events of a block that are compared with the turns
 RETIRES = 4  # cycles from an issue to its line: the issues of as many last cycles of a run have none
-
-
-class RunFailed(Exception):
-    """The program couldn't give the trace of a run."""
 
 
 class Kind(Enum):

@@ -15,7 +15,7 @@ from typing import Callable, Collection, Iterable, Iterator, Mapping, Protocol
 
 from fptools.files.setup import LoopTable
 from fptools.files.trace_blocks import (
-    BITS, EFFECT, PC, Block, TraceReader, address, character, class_of, span, trap_character,
+    BITS, CYCLE, EFFECT, PC, PLACE, Block, TraceReader, address, character, class_of, span, trap_character,
 )  # fmt: skip
 from fptools.isa.turns import Turns, is_delay, lag
 from fptools.isa.words import MRET, OPCODE_JAL, OPCODE_JALR, Flow, Word
@@ -59,7 +59,11 @@ class Tally(Spread):
     counts: Counter[int] = field(default_factory=Counter)
 
     def add(self, number: int, cycle: int, times: int = 1) -> None:
-        super().add(number, cycle, times)
+        if number in self.counts:  # it is neither the least nor the first of the largest
+            self.count += times
+            self.total += number * times
+        else:
+            super().add(number, cycle, times)
         self.counts[number] += times
 
 
@@ -226,8 +230,14 @@ def earliest_issue(block: Block, index: int) -> int | None:
     line, before = block.lines[index], block.line(index - 1)
     if before is None or before[EFFECT] == b"wait":
         return None
-    word = Word(int(before[PC], 16), int(before[BITS], 16))
-    return int(before[:10]) + lag(word, int(line[PC], 16), before[EFFECT].startswith(b"trap"))
+    return int(before[CYCLE]) + _lag(before[PLACE], line[PC], before[EFFECT].startswith(b"trap"))
+
+
+@lru_cache(maxsize=1 << 14)
+def _lag(place: bytes, to: bytes, traps: bool) -> int:
+    """The least number of cycles from an issue to the next one, as lines spell them."""
+    pc, bits = place.split()
+    return lag(Word(int(pc, 16), int(bits, 16)), int(to, 16), traps)
 
 
 class _Where(Enum):
@@ -593,14 +603,15 @@ class CallMeter:
             seen.met(call.cycle, cycles)
 
 
-@dataclass(frozen=True)
+@dataclass(slots=True)
 class JudgedWait:
     """A DU or WU: the index of its event in a block, the cycle of its first try, its moment where that
     is known, and whether it waited. Where the turns aren't known, the first try of a DU is the earliest
     that the lag before it allows."""
 
     index: int
-    word: Word
+    pc: int
+    is_delay: bool
     first: int
     moment: int | None  # nanoseconds
     did_wait: bool
@@ -623,7 +634,8 @@ class WaitJudge:
         self.period = period
         self._reader, self._turns = reader, turns
         self._known = Known(reader, _is_wait)
-        self._words: dict[int, Word] = {}  # the waits
+        # The waits by their address as lines spell it: that, the registers of the moment, whether it is a DU.
+        self._waits: dict[bytes, tuple[int, int, int, bool]] = {}
         self._registers: list[
             tuple[int, bytes]
         ] = []  # that they name, with the begin of an effect that sets each
@@ -634,20 +646,20 @@ class WaitJudge:
     def judged(self, block: Block) -> Iterator[JudgedWait]:
         """The waits of the next block."""
         if self._known.learn():
-            self._words = {pc: Word(pc, bits) for pc, bits in self._reader.words.items() if pc in self._known}
-            registers = {
-                register for word in self._words.values() for register in (word.rs1, word.rs2) if register
+            words = [Word(pc, bits) for pc, bits in self._reader.words.items() if pc in self._known]
+            self._waits = {
+                b"%08x" % it.pc: (it.pc, it.rs1, it.rs2, it.funct3 == FUNCT3_DU) for it in words
             }
-            self._registers = [(register, b" x%02d=" % register) for register in sorted(registers)]
-        begin, before = 0, 0
+            registers = sorted({it for word in words for it in (word.rs1, word.rs2)} - {0})
+            self._registers = [(register, b" x%02d=" % register) for register in registers]
+        begin = 0
         if self._known.pattern is not None:
             for found in self._known.pattern.finditer(block.events):
                 index = found.start()
-                place = (
-                    begin + sum(map(len, block.lines[before:index])) + index - before
-                )  # with the line feeds
+                # Cycles rise, so no other line has the same text.
+                place = block.data.index(block.lines[index], begin)
                 self._learn(block.data, begin, place)
-                begin, before = place, index
+                begin = place
                 yield self._judged(block, index)
         self._learn(block.data, begin, len(block.data))
 
@@ -659,17 +671,19 @@ class WaitJudge:
                 self._values[register] = int(data[place + 5 : place + 13], 16)
 
     def _judged(self, block: Block, index: int) -> JudgedWait:
-        line, cycle = block.lines[index], block.cycle(index)
-        word = self._words[int(line[PC], 16)]
-        high, low = self._values.get(word.rs1), self._values.get(word.rs2)
+        line = block.lines[index]
+        cycle = int(line[CYCLE])
+        pc, of_high, of_low, is_delay = self._waits[line[PC]]
+        high, low = self._values.get(of_high), self._values.get(of_low)
         moment = None if high is None or low is None else high << 32 | low
-        if word.funct3 != FUNCT3_DU:
-            return JudgedWait(index, word, cycle, moment, line[EFFECT] == b"wait")
+        if not is_delay:
+            return JudgedWait(index, pc, False, cycle, moment, line[EFFECT] == b"wait")
         if self._turns is not None:
             first = first_try(block, index, self._turns)
-            return JudgedWait(index, word, first, moment, first < cycle)
+            return JudgedWait(index, pc, True, first, moment, first < cycle)
         earliest = earliest_issue(block, index) or 0
-        return JudgedWait(index, word, earliest, moment, moment is None or earliest * self.period <= moment)
+        did_wait = moment is None or earliest * self.period <= moment
+        return JudgedWait(index, pc, True, earliest, moment, did_wait)
 
 
 class WaitMeter:
@@ -686,14 +700,14 @@ class WaitMeter:
             self._go_on(self._last, block.cycle(0))
             self._last = None
         for it in self._judge.judged(block):
-            wait = self.seen.get(it.word.pc)
+            wait = self.seen.get(it.pc)
             if wait is None:
-                wait = self.seen[it.word.pc] = Wait(it.word.pc, it.word.funct3 == FUNCT3_DU)
+                wait = self.seen[it.pc] = Wait(it.pc, it.is_delay)
             self._add(wait, it)
             if it.index + 1 < len(block.lines):
-                self._go_on(it.word.pc, block.cycle(it.index + 1))
+                self._go_on(it.pc, block.cycle(it.index + 1))
             else:
-                self._last = it.word.pc
+                self._last = it.pc
 
     def end(self, cycle: int) -> None:
         """Nothing is open at the end."""
@@ -705,11 +719,10 @@ class WaitMeter:
         self._went_on[pc] = cycle
 
     def _add(self, wait: Wait, it: JudgedWait) -> None:
-        period = self._judge.period
         wait.count += 1
         wait.waited += it.did_wait
-        late = it.late(period)
-        if it.is_overrun(period):
+        late = it.late(self._judge.period)
+        if not it.did_wait and (late is None or late > 0):
             wait.overruns += 1
             wait.first_overrun = it.first if wait.first_overrun is None else wait.first_overrun
         if late is not None and late > 0:
