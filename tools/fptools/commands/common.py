@@ -29,6 +29,11 @@ class Parser(argparse.ArgumentParser):
         """Adds the option for a thread."""
         self.add_argument("--thread", type=int, choices=range(THREADS), metavar="I", help=words)
 
+    def period(self, default: int) -> None:
+        """Adds the option for the nanoseconds of a cycle."""
+        words = f"nanoseconds of a cycle, if no setup is given ({default})"
+        self.add_argument("--period", type=int, choices=range(1, 1001), metavar="N", help=words)
+
 
 def new_parser(description: str | None, name: str | None = None) -> Parser:
     """A parser whose help has the description as it is written."""

@@ -63,13 +63,7 @@ def parse() -> argparse.Namespace:
     add("trace", nargs="?", type=Path, help="a file; left out, standard input")
     parser.path("--setup", "the setup of the run, for its period and the thread's turns")
     parser.thread("the thread, where the setup has more than one")
-    add(
-        "--period",
-        type=int,
-        choices=range(1, 1001),
-        metavar="N",
-        help=f"nanoseconds of a cycle, if no setup is given ({DEFAULT_PERIOD})",
-    )
+    parser.period(DEFAULT_PERIOD)
     parser.path("--elf", "the executable, for symbols and, if it was compiled with -g, source lines")
     parser.path("--map", "the map of a source (flexpret asm --map), for labels and source lines", "FILE")
     parser.path("--src", "where the sources are, if not where they were compiled", "DIR")

@@ -107,13 +107,7 @@ def parse() -> argparse.Namespace:
         help="a file; left out, standard input; with --cycles the setup, if --setup isn't given",
     )
     parser.path("--setup", "the setup of the run: its loop tables, slots, period and image")
-    add(
-        "--period",
-        type=int,
-        choices=range(1, 1001),
-        metavar="N",
-        help=f"nanoseconds of a cycle, if no setup is given ({DEFAULT_PERIOD})",
-    )
+    parser.period(DEFAULT_PERIOD)
     add("--cycles", type=cycles, metavar="N", help="run the setup for N cycles")
     parser.thread("the thread, 0 to 7; left out, those of the budgets, or the only one")
     add_sections(parser)
