@@ -86,7 +86,7 @@ from fptools.budget.budgets import Judge
 from fptools.files.elf import Program, ProgramError
 from fptools.files.image import ImageError, read_image
 from fptools.files.lint import read_valid
-from fptools.budget.names import Names
+from fptools.budget.names import Names, look_at_name
 from fptools.visits.observed import RunFailed
 from fptools.budget.path_facts import path_text
 from fptools.period.periods import judged, results_of
@@ -264,6 +264,10 @@ def image_of(asked: argparse.Namespace, setup: Setup, program: Program) -> Mappi
 def of_names(asked: argparse.Namespace) -> list[Result]:
     """The results from names alone."""
     setup, program = checked_setup(asked.setup), Program(asked.file)
+    options = {"--function": asked.function, "--from-label": [asked.from_label], "--to-label": [asked.to_label]}
+    for option, names in options.items():
+        for name in filter(None, names):
+            look_at_name(program, setup, asked.thread, option, name)
     image = image_of(asked, setup, program)
     cycles = asked.ns // setup.period if asked.ns is not None else asked.cycles
     assume = frozenset(map(Assumption, asked.assume))
