@@ -99,7 +99,8 @@ class Result:
     longest: int | None = None  # the cycles of the longest of them
     stack: Stack | None = None  # of the thread; None where the budget is unknown for another reason
     path: PathFacts | None = None  # that costs the bound; None where it isn't asked for, or there is no bound
-    waits: tuple[int, ...] = ()  # of a period: the addresses of its loop's waits
+    # Of a period: its loop's waits, each by the calls that lead to it, the outermost first, and its address.
+    waits: tuple[tuple[int, ...], ...] = ()
     is_broken: bool = False  # whether a run broke a claim of its loops
 
     @property

@@ -154,6 +154,20 @@ class Names:
         return next(free, None)
 
 
+def look_at_name(program: Program, setup: Setup, thread: int | None, option: str, text: str) -> None:
+    """Refuses a name that several addresses have: it says which threads may fetch them, and how to
+    choose one."""
+    name, _, rest = text.partition("+")
+    found = program.named(name)
+    if len(found) < 2:
+        return
+    owners = {at: setup.region("i_regions", at) for at in found}
+    own = next((at for at in found if owners[at] == f"T{thread}"), found[0])
+    where = " and ".join(f"{at:#x} ({owners[at]})" for at in found)
+    chosen = f"{own:#x}+{rest}" if rest else f"{own:#x}"
+    raise ProgramError(f"{name} is at {where}: choose by {option} {chosen}, that of {owners[own]}")
+
+
 def jump_and_link(pc: int, target: int) -> int:
     """The word of `jal x1, target` at an address."""
     way = target - pc

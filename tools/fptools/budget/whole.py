@@ -127,7 +127,7 @@ class Whole:
         """The periods of the loops for which no budget is given."""
         of = PeriodOf(None, None, True)
         budget = Budget("period", thread, 0, 0, None, True, assume=self.assume, period=of)
-        named = {pc for it in given for pc in it.waits}
+        named = {wait for it in given for wait in it.waits}
         found = results_of(self.judge, budget)
         return [it for it in found if not it.waits or not named.issuperset(it.waits)]
 

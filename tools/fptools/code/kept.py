@@ -10,6 +10,8 @@ from dataclasses import dataclass, field, replace
 from typing import Callable, Mapping
 
 from fptools.files.elf import Program
+from fptools.code.ranges import ANYTHING as ANY_NUMBER
+from fptools.code.ranges import Range, range_of
 from fptools.code.section import Exit, Loop, Section, walk
 from fptools.isa.turns import FUNCT3_GET_TIME
 from fptools.code.values import State, Value, adds, after, joined, unknown, written_by
@@ -21,6 +23,8 @@ from fptools.isa.words import (
 STACK_POINTER = 2
 WORD_SIZE = 2  # funct3 of loads and stores of a word
 ALL_REGISTERS = frozenset(range(1, 32))
+MOST_STORED = 16_384  # bytes in which a store may be, to be followed
+MOST_DEPTH = 8  # of calculations that lead to an address
 
 
 @dataclass(frozen=True)
@@ -102,7 +106,11 @@ class Called:
                     starts = pointers[at.origin] if at.origin is not None else range(1)
                     words |= {(it + at.offset) % 2**32 & ~3 for it in starts}
                 else:
-                    is_anywhere = True
+                    within = _range_of(part, before, at)
+                    if within.last - within.first < MOST_STORED:
+                        words |= {*range(within.first & ~3, within.last + 1, 4)}
+                    else:
+                        is_anywhere = True
             if word.flow is Flow.CALL and word.target is not None:
                 called, at = self.effects(word.target), before[pc].registers[STACK_POINTER]
                 words |= called.words
@@ -192,6 +200,22 @@ class Called:
         base = frame.registers[word.rs1]
         distance = word.store_offset if word.opcode == OPCODE_STORE else word.immediate
         return Value(base.origin, base.offset + distance)
+
+
+def _range_of(
+    part: Section, before: Mapping[int, Frame], value: Value, depth: int = MOST_DEPTH
+) -> Range:
+    """The numbers that a value may be: of the result of a word, by those that it calculates with."""
+    if value.origin is None:
+        return Range(value.offset % 2**32, value.offset % 2**32)
+    word = part.reached.get(value.origin[0] - 1)
+    if word is None or word.flow is not Flow.NEXT or not depth:
+        return ANY_NUMBER
+    registers = before[word.pc].registers
+    one, other = (
+        _range_of(part, before, registers[at], depth - 1) for at in (word.rs1, word.rs2)
+    )
+    return range_of(word, one, other).plus(value.offset)
 
 
 def reads_time(word: Word) -> bool:

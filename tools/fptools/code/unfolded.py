@@ -190,6 +190,12 @@ class Unfolded:
         return Graph(edges, [self.first])
 
     @cached_property
+    def order(self) -> dict[Place, int]:
+        """The places by numbers: a word has a lower one than what comes behind it, but for loops."""
+        last = self.graph.postorder(self.first)
+        return {place: at for at, place in enumerate(reversed(last))}
+
+    @cached_property
     def rings(self) -> list[Ring]:
         """The natural loops, the larger ones first."""
         dominators = Dominators(self.graph, self.first)

@@ -87,7 +87,7 @@ from fptools.files.elf import Program, ProgramError
 from fptools.files.image import ImageError, read_image
 from fptools.files.lint import read_valid
 from fptools.budget.judged import judged
-from fptools.budget.names import Names
+from fptools.budget.names import Names, look_at_name
 from fptools.program.calls import HELP, Flexpret, RunFailed
 from fptools.files.setup import Setup
 from fptools.files.sources import Sources
@@ -249,6 +249,10 @@ def image_of(asked: argparse.Namespace, setup: Setup, program: Program) -> Mappi
 def of_names(asked: argparse.Namespace) -> list[Result]:
     """The results from names alone."""
     setup, program = checked_setup(asked.setup), Program(asked.file)
+    options = {"--function": asked.function, "--from-label": [asked.from_label], "--to-label": [asked.to_label]}
+    for option, names in options.items():
+        for name in filter(None, names):
+            look_at_name(program, setup, asked.thread, option, name)
     image = image_of(asked, setup, program)
     cycles = asked.ns // setup.period if asked.ns is not None else asked.cycles
     assume = frozenset(map(Assumption, asked.assume))

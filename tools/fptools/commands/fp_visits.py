@@ -34,6 +34,7 @@ from __future__ import annotations
 import argparse
 import json
 import sys
+import tempfile
 from dataclasses import replace
 from pathlib import Path
 
@@ -42,8 +43,9 @@ from fptools.commands.common import Parser, failed, let_reader_go, new_parser
 from fptools.program.status import CANNOT
 from fptools.files.trace_blocks import Live, Progress, TraceReader
 from fptools.budget.bounds import called_functions, with_bound
-from fptools.budget.files import Result, read_budgets
+from fptools.budget.files import Budget, Result, Verdict, read_budgets
 from fptools.budget.budgets import Judge
+from fptools.budget.names import look_at_name
 from fptools.visits.claims import marks_for
 from fptools.files.elf import Function, ProgramError, other_word
 from fptools.flow.records import Marks
@@ -60,7 +62,7 @@ from fptools.visits.observed import (
 )
 from fptools.visits.text import Text, as_csv, as_data
 from fptools.period.runs import PeriodRuns
-from fptools.budget.judged import judged
+from fptools.budget.judged import judged, names_of
 from fptools.program.calls import HELP, Flexpret, RunFailed
 from fptools.budget.reports import data_of
 from fptools.files.setup import Setup
@@ -202,6 +204,8 @@ class Asked:
         return Watched(name or addresses, start, end, routines)
 
     def _of_function(self, text: str) -> Watched:
+        if self.setup is not None:
+            look_at_name(self.program, self.setup, self.options.thread, "--function", text)
         return watched_function(self.program.function(text))
 
     def watched(self) -> dict[int | None, list[Watched]]:
@@ -235,7 +239,32 @@ class Asked:
         if self.setup is None or thread is None or self.options.no_bounds:
             return [replace(it, doubt="not asked for") for it in found]
         ask = self.flexpret, self.setup.path, thread
-        return [with_bound(*ask, it, self.code, self.program.functions) for it in found]
+        bounded = [with_bound(*ask, it, self.code, self.program.functions) for it in found]
+        return [it if it.bound is not None else self._by_names(thread, it) for it in bounded]
+
+    def _by_names(self, thread: int, watched: Watched) -> Watched:
+        """A section or function with its bound as fp_budget has it: by the loop tables that it makes
+        of the executable."""
+        assert self.setup
+        if self.program.path is None:
+            return watched
+        start, end = (0, 0) if watched.is_function else (watched.start, watched.end)
+        exits = tuple(sorted(watched.exits))
+        budget = Budget(watched.name, thread, start, end, None, bool(watched.routines), exits)
+        judge = Judge(self.flexpret, self.setup, self.code, self.program)
+        with tempfile.TemporaryDirectory() as folder:
+            names = names_of(judge, Path(folder))
+            try:
+                found = (
+                    names.function(f"{watched.start:#x}", budget)
+                    if watched.is_function
+                    else names.section(budget)
+                )
+            except ProgramError:
+                return watched
+        if found.bound is None or found.verdict is not Verdict.HOLDS:
+            return watched
+        return replace(watched, bound=found.bound, doubt="")
 
     def observed(self) -> list[Observation]:
         watched = self.watched()

@@ -175,7 +175,7 @@ class Program:
         number = int(digits, 16 if digits.startswith("0x") else 10)
         if not parts["name"]:
             return number
-        named = sorted({at for at, name in self.symbols if name == parts["name"]})
+        named = self.named(parts["name"])
         if not named and self.path is None:
             raise ProgramError(f"{parts['name']} is a name, and names need {self.names_need}")
         if not named:
@@ -183,6 +183,10 @@ class Program:
         if len(named) > 1:
             raise ProgramError(f"{parts['name']} is at {' and '.join(map(hex, named))}: give the number")
         return named[0] + number
+
+    def named(self, name: str) -> list[int]:
+        """The addresses that have a name."""
+        return sorted({at for at, it in self.symbols if it == name})
 
     def _why_no_symbol(self, name: str) -> str:
         """Why a name of the sources is no symbol, where that is known: a compiler inlines functions, and makes clones of them."""

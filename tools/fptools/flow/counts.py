@@ -17,7 +17,7 @@ from fptools.code.section import Loop, Section, walk
 from fptools.code.values import State, Value, Values, adds, jumps_of, signed, unknown, written_by
 from fptools.isa.words import Flow, Word
 
-__all__ = ["Count", "called_with", "count_of", "count_of_straight", "jumps_of"]
+__all__ = ["Count", "Side", "called_with", "count_of", "count_of_straight", "jumps_of", "until_it_leaves"]
 
 BEQ, BNE, BLT, BGE, BLTU, BGEU = 0, 1, 4, 5, 6, 7
 MOST_BEFORE = 64
@@ -124,7 +124,7 @@ class _Tests:
         stays = test.target in self.loop.body
         if one.first.origin is not None:
             return _until_they_meet(test.funct3, stays, one, other)
-        found = _until_it_leaves(test.funct3, stays, one, other)
+        found = until_it_leaves(test.funct3, stays, one, other)
         return found if found is not None and found <= MOST_ROUNDS else None
 
     def _side(self, test: Word, register: int) -> Side | None:
@@ -175,7 +175,7 @@ def _until_they_meet(funct3: int, stays_if_taken: bool, one: Side, other: Side) 
     return None if stays_if_equal or rest or not 0 <= backs <= MOST_ROUNDS else backs
 
 
-def _until_it_leaves(funct3: int, stays_if_taken: bool, one: Side, other: Side) -> int | None:
+def until_it_leaves(funct3: int, stays_if_taken: bool, one: Side, other: Side) -> int | None:
     """How often a test stays before it leaves, by the numbers of both sides; None where that is
     more than MOST_ROUNDS."""
     at, surely_stays = 0, _until_they_meet_again if funct3 < BLT else _until_one_passes

@@ -75,7 +75,7 @@ class FirstWaits:
 
     def _one(self, begin: Place, wait: Place, before: Judgement) -> Judgement:
         """Whether a wait is in time that is the next one behind another, or behind the entry."""
-        moment = self.moments_behind(begin)[wait]
+        moment = self._since(begin, self.moments_behind(begin)[wait])
         try:
             if isinstance(moment, Behind):
                 found = self._behind_at_most(begin, wait, moment)
@@ -93,6 +93,15 @@ class FirstWaits:
         return self._not_known(
             wait, moment.why if isinstance(moment, Unclear) else "its moment is the same each time"
         )
+
+    def _since(self, begin: Place, moment: Moment) -> Moment:
+        """A moment that is a number, as its distance from that of the wait before, where this one
+        is a number too."""
+        if isinstance(moment, Absolute) and is_wait(self.bounds.unfolded.steps[begin].word):
+            before = self.moments.at(begin)
+            if isinstance(before, Absolute):
+                return Behind(moment.ns - before.ns)
+        return moment
 
     def _behind_at_most(self, begin: Place, wait: Place, most: Behind) -> Judgement:
         if most.reading is not None:

@@ -1,34 +1,38 @@
 """Values of registers and memory, as far as they are of the two words of a moment.
 
 Of a value is known: a number; a distance from a value that isn't known; the high word of a
-moment plus nanoseconds; or the carry of an addition to a low word."""
+moment plus nanoseconds; or the carry of an addition to a low word. Distances may have multiples
+of how often loops have gone back."""
 from __future__ import annotations
 
 from dataclasses import dataclass, replace
 from typing import Hashable, Union
 
+from fptools.code.ranges import ANYTHING, Range, range_of
 from fptools.code.unfolded import Place
+from fptools.period.sums import ZERO, Sum
 from fptools.isa.words import OPCODE_AUIPC, OPCODE_IMMEDIATE, OPCODE_LUI, OPCODE_REGISTERS, Word
 
 LOW, TWICE = 2**32, 2**64
-ADD, SLTU = 0, 3
+ADD, SLTU, XOR, OR = 0, 3, 4, 6
+SHIFTS = 1, 5
 SUB_OR_SRA = 32
 
 
 @dataclass(frozen=True)
 class Linear:
-    """A value that isn't known plus a number, or only a number, modulo 2^32."""
+    """A value that isn't known plus a sum, or only a sum, modulo 2^32."""
 
     origin: Hashable
-    offset: int
+    offset: Sum = ZERO
 
 
 @dataclass(frozen=True)
 class High:
-    """The high word of a moment plus nanoseconds. The low word of the same is Linear of LowOf."""
+    """The high word of a moment plus nanoseconds. The low word of the same is `low_of` it."""
 
     base: Hashable
-    added: int  # modulo 2^64
+    added: Sum = ZERO  # modulo 2^64
 
 
 @dataclass(frozen=True)
@@ -39,11 +43,35 @@ class LowOf:
 
 
 @dataclass(frozen=True)
+class Within:
+    """The result of a word that isn't known, but in which range it is, as the origin of values."""
+
+    place: Place
+    range: Range
+
+
+@dataclass(frozen=True)
+class At:
+    """What a loop is entered with, as the origin of values: it is a number."""
+
+    head: Place
+    key: Hashable
+    number: Sum
+
+
+@dataclass(frozen=True)
 class Words:
-    """Two values that aren't known, as the high and the low word of a moment."""
+    """A value that isn't known and another one, as the high and the low word of a moment."""
 
     high: Hashable
-    low: Hashable
+    low: Linear
+
+
+@dataclass(frozen=True)
+class Earlier:
+    """The origin of a value of before a wait, or what that value was."""
+
+    origin: Hashable
 
 
 @dataclass(frozen=True)
@@ -51,7 +79,7 @@ class Carry:
     """The carry where a number is added to a value with a distance, plus a number."""
 
     origin: Hashable
-    offset: int
+    offset: Sum
     added: int
     plus: int = 0
 
@@ -60,18 +88,41 @@ Known = Union[Linear, High, Carry]
 MOMENT = "the moment of the wait before"
 
 
-def low_of(base: Hashable) -> Hashable:
-    """The origin of the low word of a moment."""
-    return base.low if isinstance(base, Words) else LowOf(base)
+def low_of(value: High) -> Linear:
+    """The low word of the moment that a value is the high word of."""
+    low = value.base.low if isinstance(value.base, Words) else Linear(LowOf(value.base))
+    return Linear(low.origin, (low.offset + value.added) % LOW)
 
 
 def number(value: int) -> Linear:
-    return Linear(None, value % LOW)
+    return Linear(None, Sum(value % LOW))
+
+
+def sum_of(value: Known) -> Sum | None:
+    """A value, if it is a number, or one by counters."""
+    if not isinstance(value, Linear):
+        return None
+    if isinstance(value.origin, At):
+        return (value.origin.number + value.offset) % LOW
+    return value.offset if value.origin is None else None
 
 
 def number_of(value: Known) -> int | None:
     """A value, if it is a number."""
-    return value.offset if isinstance(value, Linear) and value.origin is None else None
+    known = sum_of(value)
+    return known.number if known is not None and known.is_number else None
+
+
+def range_of_value(value: Known) -> Range:
+    """The numbers that a value may be."""
+    if not isinstance(value, Linear) or not value.offset.is_number:
+        return ANYTHING
+    origin = value.origin
+    while isinstance(origin, Earlier):
+        origin = origin.origin
+    if origin is None:
+        return Range(value.offset.number, value.offset.number)
+    return origin.range.plus(value.offset.number) if isinstance(origin, Within) else ANYTHING
 
 
 @dataclass(frozen=True)
@@ -112,23 +163,25 @@ def moment_of(high: Known, low: Known) -> Moment:
         return Unclear("both words of the moment are the same", True)
     if not isinstance(low, Linear):
         return Unclear("the low word of the moment isn't known")
-    if low.origin is None:
+    if sum_of(low) is not None:
         return Unclear("the low word of the moment is a number, and the high word isn't known")
-    if not isinstance(low.origin, LowOf):
+    if not isinstance(low.origin, LowOf) or not low.offset.is_number:
         return Unclear("the low word of the moment isn't the one before plus a number")
-    if number_of(high) is not None:
+    if first is not None:
         return Unclear("the high word of the moment is a number: it works for 4.29 seconds", True)
     if not isinstance(high, High) or high.base != low.origin.base:
         return Unclear(
             "the high word of the moment isn't the one before with the carry of the low word", True
         )
-    ns = (high.added + TWICE // 2) % TWICE - TWICE // 2
+    if not high.added.is_number:
+        return Unclear("the moment depends on how often loops have gone back")
+    ns = (high.added.number + TWICE // 2) % TWICE - TWICE // 2
     reading = high.base if isinstance(high.base, Place) else None
     if high.added % LOW != low.offset:
         text = (
             "the high word of the moment lacks the carry of the low word: it works for 4.29 seconds"
         )
-        return Unclear(text, True, Behind(ns + (low.offset - ns) % LOW, reading))
+        return Unclear(text, True, Behind(ns + (low.offset.number - ns) % LOW, reading))
     return Behind(ns, reading)
 
 
@@ -142,7 +195,7 @@ class Rebase:
 
     def change(self, value: Known) -> Known:
         if isinstance(value, Linear) and value.origin is None:
-            return value
+            return Linear(None, value.offset.earlier)
         of_low, of_high = self._as_low(value), self._as_high(value)
         if of_low is not None and self.high != self.low:
             return of_low
@@ -153,27 +206,41 @@ class Rebase:
         if not isinstance(low, Linear) or low.origin is None or not isinstance(value, Linear):
             return None
         is_of_it = value.origin == low.origin
-        return Linear(LowOf(MOMENT), (value.offset - low.offset) % LOW) if is_of_it else None
+        distance = ((value.offset - low.offset) % LOW).earlier
+        return Linear(LowOf(MOMENT), distance) if is_of_it else None
 
     def _as_high(self, value: Known) -> Known | None:
         high, low = self.high, self.low
         if isinstance(high, High) and isinstance(value, High) and value.base == high.base:
-            if value == high or low == Linear(low_of(high.base), high.added % LOW):
-                return High(MOMENT, (value.added - high.added) % TWICE)
+            if value == high or low == low_of(high):
+                return High(MOMENT, ((value.added - high.added) % TWICE).earlier)
         if isinstance(high, High) and isinstance(high.base, Words) and isinstance(value, Linear):
-            is_whole = low == Linear(high.base.low, high.added % LOW)
-            if is_whole and value.origin == high.base.high:
-                return High(MOMENT, (value.offset * LOW - high.added) % TWICE)
+            if low == low_of(high) and value.origin == high.base.high:
+                distance = value.offset * LOW - high.added
+                return High(MOMENT, (distance % TWICE).earlier)
         if isinstance(high, Linear) and isinstance(value, Linear) and value.origin == high.origin:
-            return High(MOMENT, (value.offset - high.offset) % LOW * LOW)
-        return High(MOMENT, 0) if value == high else None
+            return High(MOMENT, ((value.offset - high.offset) % LOW * LOW % TWICE).earlier)
+        return High(MOMENT) if value == high else None
 
 
 def _earlier(value: Known) -> Known:
     """A value of before a wait, which is none of those behind it."""
+    known = sum_of(value)
+    if known is not None:
+        return Linear(None, known.earlier)
     if isinstance(value, Linear):
-        return value if value.origin is None else Linear(("earlier", value.origin), value.offset)
-    return Linear(("earlier", value), 0)
+        return Linear(Earlier(value.origin), value.offset.earlier)
+    return Linear(Earlier(value))
+
+
+def result_of(place: Place, word: Word, registers: tuple[Known, ...]) -> Known:
+    """The result of a word, a calculation or a load from an address that isn't known."""
+    found = calculated(word, registers)
+    if found is not None:
+        return found
+    values = (range_of_value(registers[at]) for at in (word.rs1, word.rs2))
+    numbers = range_of(word, *values)
+    return Linear((place, "result") if numbers == ANYTHING else Within(place, numbers))
 
 
 def calculated(word: Word, registers: tuple[Known, ...]) -> Known | None:
@@ -190,6 +257,10 @@ def calculated(word: Word, registers: tuple[Known, ...]) -> Known | None:
     is_minus = word.opcode == OPCODE_REGISTERS and word.field(25, 7) == SUB_OR_SRA
     if word.funct3 == ADD:
         return _difference(one, other) if is_minus else added(one, other)
+    if word.funct3 in SHIFTS and word.opcode == OPCODE_IMMEDIATE:
+        return one if not word.rs2 else None
+    if word.funct3 in (XOR, OR):
+        return one if number_of(other) == 0 else other if number_of(one) == 0 else None
     return carry(one, other) if word.funct3 == SLTU and not is_minus else None
 
 
@@ -197,8 +268,8 @@ def _difference(one: Known, other: Known) -> Known | None:
     if not isinstance(other, Linear):
         return None
     if isinstance(one, Linear) and one.origin == other.origin:
-        return number(one.offset - other.offset)
-    return added(one, number(-other.offset)) if other.origin is None else None
+        return Linear(None, (one.offset - other.offset) % LOW)
+    return added(one, Linear(None, other.offset * -1 % LOW)) if other.origin is None else None
 
 
 def added(one: Known, other: Known) -> Known | None:
@@ -210,18 +281,16 @@ def added(one: Known, other: Known) -> Known | None:
             return Linear(one.origin, (one.offset + other.offset) % LOW)
         if isinstance(one, High):
             return High(one.base, (one.added + other.offset * LOW) % TWICE)
-        return replace(one, plus=(one.plus + other.offset) % LOW)
+        known = number_of(other)
+        return None if known is None else replace(one, plus=(one.plus + known) % LOW)
     if isinstance(one, Carry):
         one, other = other, one
     if not isinstance(other, Carry):
         return None
     if isinstance(one, Linear):
-        one = High(Words(one.origin, other.origin), one.offset * LOW)
-    if (
-        not isinstance(one, High)
-        or other.origin != low_of(one.base)
-        or other.offset != one.added % LOW
-    ):
+        words = Words(one.origin, Linear(other.origin, other.offset))
+        one = High(words, one.offset * LOW)
+    if not isinstance(one, High) or low_of(one) != Linear(other.origin, other.offset):
         return None
     return High(one.base, (one.added + other.added + other.plus * LOW) % TWICE)
 
@@ -231,12 +300,15 @@ def carry(one: Known, other: Known) -> Known | None:
     or of it as the number and a value."""
     if not (isinstance(one, Linear) and isinstance(other, Linear)):
         return None
-    if one.origin is None and other.origin is None:
-        return number(one.offset < other.offset)
+    a, b = number_of(one), number_of(other)
+    if a is not None and b is not None:
+        return number(a < b)
     if one.origin is not None and other.origin == one.origin:
-        step = (one.offset - other.offset) % LOW
+        distance = (one.offset - other.offset) % LOW
+        step = distance.number
+        if not distance.is_number:
+            return None
         return Carry(one.origin, other.offset, step) if step else number(0)
-    if one.origin is not None and other.origin is None:
-        step = other.offset
-        return Carry(one.origin, (one.offset - step) % LOW, step) if step else number(0)
+    if one.origin is not None and b is not None:
+        return Carry(one.origin, (one.offset - b) % LOW, b) if b else number(0)
     return None

@@ -31,7 +31,7 @@ from fptools.isa.words import Flow, Word
 
 NO_TRAP = "no trap"
 FAULTS = (Unknown, NotUnfolded, ProgramError)
-ALONE = "the period of a loop has a bound where a round takes one wait"
+ALONE = "where a round takes several waits, the code must show the distance of each two moments"
 APART = "a wait that only a trap leads to: no period of it has a bound"
 ONLY_DELAYS = "a loop that waits by DU alone: only the period of one that waits by WU has a bound"
 NOT_SHOWN = "the code doesn't show what lies between two moments: give it as ns of a budget"
@@ -203,18 +203,29 @@ class Periods:
         return (name or "the loop around") + line
 
     def _pairs(self, loop: WaitingLoop) -> list[Pair]:
-        """Each wait with the next ones in the loop."""
-        pairs = []
+        """Each wait with the next ones in the loop. Where a round takes several, the code shows
+        how far each moment is behind the one before."""
+        pairs, second = [], ""
         for begin in sorted(loop.waits, key=lambda it: it.key):
             paths = self._path_bounds.paths(begin)
-            self._look_at_lost(paths, loop)
-            self._look_at_order(paths, loop)
+            self._look_at_lost(paths)
+            second = second or self._second(paths, loop)
             for end in sorted({it.place for it in paths.ends} & loop.waits):
                 cycles = self._path_bounds.most(begin, end)
                 pairs.append(Pair(begin, end, cycles, self._first.moments_behind(begin)[end]))
+        if second:
+            self._look_at_distances(pairs, second)
         return pairs
 
-    def _look_at_lost(self, paths: Paths, loop: WaitingLoop) -> None:
+    def _look_at_distances(self, pairs: Sequence[Pair], second: str) -> None:
+        """The code shows the distance of each two moments, of which the second is in `second`."""
+        for it in pairs:
+            moment = it.moment
+            if not isinstance(moment, Behind):
+                why = moment.why if isinstance(moment, Unclear) else f"it is {moment.ns} each time"
+                raise Unknown(f"{second}: {ALONE}; {self._where(it.end)}: {why}")
+
+    def _look_at_lost(self, paths: Paths) -> None:
         """Each path comes to a wait."""
         for node in paths.lost:
             step = paths.step(node)
@@ -227,8 +238,9 @@ class Periods:
         if paths.lost:
             raise Unknown(f"{self.judge.where(paths.lost[0].place.pc)}: {LOST}")
 
-    def _look_at_order(self, paths: Paths, loop: WaitingLoop) -> None:
-        """A round takes one wait. Copies of one, of the same source lines, are one."""
+    def _second(self, paths: Paths, loop: WaitingLoop) -> str:
+        """Another wait of the same round behind the begin of paths, in words; empty where there is
+        none. Copies of one wait, of the same source lines, are one."""
         around = self.unfolded.around(paths.begin)
         for node in paths.ends:
             if node.place not in loop.waits or self._source(node.place) == self._source(
@@ -240,7 +252,8 @@ class Periods:
                 one, other = self._where_called(paths.begin, loop), self._where_called(
                     node.place, loop
                 )
-                raise Unknown(f"{other}: another wait, behind that at {one}: {ALONE}")
+                return f"{other}: another wait, behind that at {one}"
+        return ""
 
     def _source(self, place: Place) -> object:
         """The source lines of a wait and of the calls that lead to it; the place itself where one
@@ -305,7 +318,7 @@ class Periods:
         notes = tuple(dict.fromkeys([*bounds.notes, *asked.notes]))
         loops = tuple(it for _, it in sorted(bounds.loops.items()))
         functions = tuple(it for _, it in sorted(bounds.functions.items()))
-        waits = tuple(sorted({it.pc for it in loop.waits}))
+        waits = tuple(sorted(it.key for it in loop.waits))
         return Result(
             budget,
             verdict,

@@ -2,7 +2,7 @@
 from __future__ import annotations
 
 from dataclasses import dataclass, field, replace
-from typing import Sequence
+from typing import Callable, Mapping, Sequence
 
 from fptools.budget.files import Result, Verdict
 from fptools.visits.claims import ClaimMeter, broken_text
@@ -11,9 +11,13 @@ from fptools.visits.observed import RETIRES, opened_run
 from fptools.program.calls import Flexpret
 from fptools.files.setup import Setup
 from fptools.files.trace import CAUSES
-from fptools.files.trace_blocks import Block, BrokenTrace, Progress, TraceReader
+from fptools.files.image import read_image
+from fptools.files.trace_blocks import PC, Block, BrokenTrace, Progress, TraceReader
 from fptools.isa.turns import turns_of
-from fptools.visits.visits import TrapMeter, WaitJudge, measure
+from fptools.visits.visits import Known, TrapMeter, WaitJudge, measure
+from fptools.isa.words import Flow, Word
+
+Waits = Sequence[tuple[int, ...]]
 
 
 @dataclass
@@ -31,13 +35,42 @@ class Seen:
     begun: int | None = None  # nanoseconds: when the last period began
 
 
+class CallMeter:
+    """The newest call of each function in a trace, of those that lead to waits."""
+
+    def __init__(
+        self, reader: TraceReader, loops: Sequence[Waits], image: Mapping[int, int]
+    ) -> None:
+        sites = {site for waits in loops for wait in waits for site in wait[:-1]}
+        self._targets = {site: Word(site, image.get(site, 0)).target for site in sites}
+        functions = {*self._targets.values()} - {None}
+        self._known = Known(reader, lambda it: it.flow is Flow.CALL and it.target in functions)
+        self._image = image
+        self._newest: dict[int | None, int] = {}
+        self._block: Block | None = None
+        self._done = 0
+
+    def before(self, block: Block, index: int) -> Callable[[tuple[int, ...]], bool]:
+        """Whether some calls are the newest ones of their functions, before a line of a block."""
+        if block is not self._block:
+            self._known.learn()
+            self._block, self._done = block, 0
+        if self._known.pattern is not None:
+            for found in self._known.pattern.finditer(block.events, self._done, index):
+                site = int(block.lines[found.start()][PC], 16)
+                self._newest[Word(site, self._image.get(site, 0)).target] = site
+        self._done = index
+        return lambda sites: all(self._newest.get(self._targets[it]) == it for it in sites)
+
+
 @dataclass
 class PeriodMeter:
-    """Looks at each WU of loops, given by their addresses."""
+    """Looks at each WU of loops, given by the calls that lead to it and its address."""
 
     judge: WaitJudge
     period: int
-    loops: Sequence[tuple[int, ...]]
+    loops: Sequence[Waits]
+    calls: CallMeter
     seen: list[Seen] = field(default_factory=list)
 
     def __post_init__(self) -> None:
@@ -45,11 +78,14 @@ class PeriodMeter:
 
     def take(self, block: Block) -> None:
         for it in self.judge.judged(block):
+            newest = self.calls.before(block, it.index)
             for waits, seen in zip(self.loops, self.seen):
-                if it.pc in waits and not it.is_delay and it.moment is not None:
+                is_own = any(wait[-1] == it.pc and newest(wait[:-1]) for wait in waits)
+                if is_own and not it.is_delay and it.moment is not None:
                     self._add(seen, it.first, it.moment)
                 else:
                     seen.begun = None
+        self.calls.before(block, len(block.lines))
 
     def _add(self, seen: Seen, cycle: int, moment: int) -> None:
         now = cycle * self.period
@@ -90,13 +126,15 @@ class PeriodRuns:
         return found
 
     def _run(
-        self, thread: int, loops: Sequence[tuple[int, ...]], claims: ClaimMeter
+        self, thread: int, loops: Sequence[Waits], claims: ClaimMeter
     ) -> tuple[str, list[Seen], str]:
         """The first trap of a run, the periods of loops in it, and what is wrong with its trace."""
         with opened_run(self.flexpret, self.setup.path, thread, self.cycles) as source:
             reader = TraceReader(source, f"T{thread}", 0, None, Progress(self.name, self.cycles))
             judge = WaitJudge(reader, turns_of(self.setup, thread), self.setup.period)
-            meter, traps, broken = PeriodMeter(judge, self.setup.period, loops), TrapMeter(), ""
+            calls = CallMeter(reader, loops, read_image(self.setup.image))
+            meter = PeriodMeter(judge, self.setup.period, loops, calls)
+            traps, broken = TrapMeter(), ""
             try:
                 measure(reader, [meter, traps, claims])
             except BrokenTrace as fault:

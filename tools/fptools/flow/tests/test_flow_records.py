@@ -97,7 +97,7 @@ def test_claims_whose_marks_may_be_of_other_code() -> None:
     assert why == "same shares its code with another function: link without --icf"
     other = (Function(0, 64, "f"), Function(0, 64, "h"))
     (why,) = Marks.of(Own(record(8), functions=other)).unused.values()
-    assert why.startswith("f and h share their code: link without --icf, and ")
+    assert why.startswith("f and h share their code: write a function in place of an alias, or ")
     alias = (Function(0, 64, "f"), Function(0, 64, "g"))
     assert not Marks.of(Own(record(8), functions=alias)).unused
     (why,) = Marks.of(Own(record(8), functions=(Function(16, 64, "f"),))).unused.values()

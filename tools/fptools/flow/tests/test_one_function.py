@@ -151,7 +151,7 @@ def test_an_alias_of_a_function(tmp_path: Path, is_laid: bool) -> None:
     main = "void main0(void) { for (;;) { f(FP_PORT); g(FP_PORT); } }\n"
     (loop,) = stated(built(tmp_path, [text + main], ["-Os"], is_laid=is_laid))["f"]
     assert loop.bound in (LEAST if is_laid else [None])
-    why = "f and g share their code: link without --icf, and write a function in place of an alias"
+    why = "f and g share their code: write a function in place of an alias, or link without --icf"
     assert is_laid or why in loop.doubt
 
 

@@ -224,7 +224,7 @@ def test_a_first_wait_that_is_not_known(case: Case) -> None:
     ("source", "why"),
     [
         (loop("du x11, x10\n"), "a DU on the path"),
-        (loop(f"{NEXT}wu x11, x10\n"), "another wait, behind that at"),
+        (loop(f"{NEXT}wu x11, x10\n{LOADS}add x10, x10, x16\n"), "another wait, behind that at"),
         (
             loop("lw x5, 0(x15)\nbeq x5, x0, head\n"),
             "a round from here may come back without a wait",

@@ -123,6 +123,36 @@ def test_a_wait_in_a_function(tool: Tool, tmp_path: Path, body: str) -> None:
     assert status == 2 and "the moment is 20000 ns behind the one before, and not 19000 ns" in text
 
 
+NESTED = "for (int k = 0; k < 5; k++) { next += P; fp_wait_until(next); table[FP_PORT & 15] += k; }"
+NESTED += " next += P; fp_wait_until(next); FP_PORT = work(FP_PORT);"
+TWO_LOOPS = "do { tick(); table[FP_PORT & 15]++; } while (FP_PORT & 1);\n"
+TWO_LOOPS += "do { tick(); FP_PORT = work(4); } while (FP_PORT & 2);"
+BY_HAND = "next += P; fp_wait_until(next); FP_PORT = 1; next += P; fp_wait_until(next); FP_PORT = 0;"
+
+
+@pytest.mark.parametrize("level", ["-O2", "-Os"])
+@pytest.mark.parametrize("moment", ["uint64_t next = fp_get_time();", "next = 100000;"])
+@pytest.mark.parametrize("body", [NESTED, TWO_LOOPS, BY_HAND], ids=["nested", "two", "by hand"])
+def test_several_waits_in_a_round(
+    tool: Tool, tmp_path: Path, body: str, moment: str, level: str
+) -> None:
+    """Each two moments are P apart. The compiler adds all of an inner loop's at once."""
+    if "tick" in body:
+        moment = moment.replace("uint64_t ", "")
+    source = f"void main0(void)\n{{\n    {moment}\n    for (;;) {{ {body} }}\n}}\n"
+    status, text = Built(tool, tmp_path, source, level).period()
+    assert status == 0 and "; assumes no trap; the longest of" in text, text
+    assert "no wait is late" in text
+
+
+def test_a_run_of_two_loops_that_wait_in_one_function(tool: Tool, tmp_path: Path) -> None:
+    """Each loop's periods are told apart by the calls that lead to the wait."""
+    body = "for (int k = 0; k < 9; k++) { tick(); }\n work(work(work(1)));\n"
+    body += "for (;;) { tick(); FP_PORT = work(FP_PORT); }"
+    status, text = Built(tool, tmp_path, f"{BEGIN}{body}\n}}\n", "-O1").period()
+    assert status == 0 and "the longest of 8 periods takes" in text, text
+
+
 def test_copies_of_a_wait_that_the_compiler_makes(tool: Tool, tmp_path: Path) -> None:
     """They are one behind the other, of one source line."""
     loop = "for (int k = 0; k < 3; k++) { if (k == 1) FP_PORT = work(7);\n next += P;\n fp_wait_until(next); }"
@@ -135,7 +165,7 @@ def test_copies_of_a_wait_that_the_compiler_makes(tool: Tool, tmp_path: Path) ->
 @pytest.mark.parametrize(
     ("body", "why"),
     [
-        ("for (;;) { tick();\n FP_PORT = work(1);\n tick(); }", "another wait, behind that at"),
+        ("for (;;) { tick();\n next += work(1);\n tick(); }", "another wait, behind that at"),
         (
             "for (;;) { tick(); fp_delay_until(next + 100); }",
             "a DU on the path takes as long as its moment says",
