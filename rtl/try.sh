@@ -15,7 +15,6 @@ cd "$work/folder" || exit 1
 ln -s "$program" flexpret
 ln -s "$top/examples" "$top/tools" .
 cp "$here"/{Makefile,flexpret.sv,driver.cpp,state.vlt,simulate} rtl
-ln -s "$top/tools/fptools" rtl/fptools
 
 # shellcheck source=examples/shown.bash
 . "$top/examples/shown.bash"

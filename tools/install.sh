@@ -32,10 +32,10 @@ put() {
     install -D -m 644 "$tools/flexpret.bash" "$prefix/share/bash-completion/completions/$3"
 }
 
-# The tools that the scripts call, their package, the schemas, and the model.
+# The tools that the scripts call, their package with its schemas, and the model.
 put_tools() {
     local file
-    for file in "$tools"/fp* "$tools"/launch.bash "$tools"/*.schema.json; do
+    for file in "$tools"/fp* "$tools"/launch.bash; do
         [ -d "$file" ] || install -D -m "$([ -x "$file" ] && echo 755 || echo 644)" "$file" "$home/tools/${file##*/}"
     done
     while read -r file; do
@@ -43,7 +43,7 @@ put_tools() {
     done < <(cd "$tools" && find fptools \( -name tests -o -name testing -o -name __pycache__ -o -name evidence.toml \) -prune -o -type f -print)
     # The model, for --model.
     for file in "$top"/model/*.py; do
-        install -D -m 644 "$file" "$home/tools/model/${file##*/}"
+        install -D -m 644 "$file" "$home/model/${file##*/}"
     done
     # fp_new makes programs of them.
     for file in Makefile flexpret.h flexpret.ld start.s; do

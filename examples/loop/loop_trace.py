@@ -4,9 +4,12 @@
 t0_motor.c."""
 from __future__ import annotations
 
+import site
 import sys
 from collections.abc import Iterable, Iterator
+from pathlib import Path
 
+site.addsitedir(str(Path(__file__).resolve().parents[2] / "tools"))
 
 from fptools.files.trace import Event, read_trace
 from fptools.files.trace_blocks import BrokenTrace

@@ -7,10 +7,12 @@ Setups and bounds are read by the package fptools of tools/."""
 from __future__ import annotations
 
 import argparse
+import site
 import sys
 from dataclasses import dataclass
 from pathlib import Path
 
+site.addsitedir(str(Path(__file__).resolve().parents[2] / "tools"))
 
 from fptools.program.answers import Bound, read_answer
 from fptools.files.setup import read_setup

@@ -61,6 +61,10 @@ class Graph(Generic[N]):
         """The other nodes from which a path leads to this one."""
         return set(_spread(self._before, node, ())) - {node}
 
+    def postorder(self, first: N) -> list[N]:
+        """What paths from a node reach, each behind those that a depth-first search finds from it."""
+        return _postorder(self._onward, first)
+
     def immediate_dominators(self, first: N) -> dict[N, N]:
         """For each node that is reached from the first one: the nearest other node that all paths
         from there to it pass. The first one has itself. By Cooper, Harvey and Kennedy, A Simple, Fast

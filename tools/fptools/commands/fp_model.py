@@ -8,10 +8,11 @@ a thousand times as long as the program."""
 from __future__ import annotations
 
 import os
+import site
 import sys
 
 from fptools import require
-from model.__main__ import main as answer
+from fptools.checkout import TOP
 
 SAYS = "flexpret: nothing of this answer is proved: the model in Python gives it"
 
@@ -20,4 +21,7 @@ def main() -> int:
     require()
     if not os.environ.get("FLEXPRET_QUIET"):
         print(SAYS, file=sys.stderr, flush=True)
+    site.addsitedir(str(TOP))
+    from model.__main__ import main as answer
+
     return answer()
