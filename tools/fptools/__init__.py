@@ -13,7 +13,6 @@ from fptools.checkout import TOOLS
 PACKAGES = {
     "elftools": ("pyelftools", "python3-pyelftools"),
     "jsonschema": ("jsonschema", "python3-jsonschema"),
-    "networkx": ("networkx", "python3-networkx"),
     "jinja2": ("Jinja2", "python3-jinja2"),
 }
 """The modules that the tools use beyond Python itself: the package of each, and Debian's name for it."""

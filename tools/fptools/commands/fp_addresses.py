@@ -24,7 +24,7 @@ NAME = "fp_addresses"
 
 
 def write_routines(path: Path, program: Program, start: int, end: int) -> None:
-    """Writes the list of the functions that a section reaches by calls. Only this needs networkx."""
+    """Writes the list of the functions that a section reaches by calls."""
     from fptools.budget.bounds import called_functions
 
     functions = called_functions(program.words, program.functions, start, end)

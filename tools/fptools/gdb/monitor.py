@@ -119,9 +119,9 @@ class Monitor:
     ) -> Iterator[str]:
         """The bound of a section with loops that the setup has no table for: the executable bounds
         them, as for fp_budget. What fp_budget would refuse for other reasons is a note."""
-        if missing := [it for it in ("jsonschema", "networkx") if find_spec(it) is None]:
+        if find_spec("jsonschema") is None:
             text = f"T{thread} has no bound there: no [[loop]] of the setup states a loop of it, and"
-            raise Misuse(f"{text} python3-{missing[0]} isn't installed, by which fp_budget bounds it")
+            raise Misuse(f"{text} python3-jsonschema isn't installed, by which fp_budget bounds it")
         from fptools.budget.budgets import Assumption, Budget, Judge, Verdict
         from fptools.files.image import read_image
         from fptools.budget.judged import judged

@@ -234,7 +234,7 @@ def _setup(refusal: Refusal, context: Context) -> Iterator[str]:
     except TomlError as fault:
         yield f"{context.setup}:{fault.line}: error: {fault.text}"
         return
-    if not has("jsonschema", "networkx"):
+    if not has("jsonschema"):
         place = "" if refusal.place in ("-", "top") else f"{refusal.place}: "
         yield f"{context.setup}:{setup.line(key_of(refusal.place)) or 1}: error: {place}{SETUP_HINTS[refusal.name]}"
         return

@@ -16,7 +16,7 @@ ELF = TOP / "examples/c/pid.elf"
 def bare(tmp_path: Path) -> Path:
     """A Python without packages."""
     made = subprocess.run([DEBIAN, "-m", "venv", "--without-pip", tmp_path / "bare"], capture_output=True, check=False)
-    has = subprocess.run([DEBIAN, "-c", "import elftools, jsonschema, networkx"], capture_output=True, check=False)
+    has = subprocess.run([DEBIAN, "-c", "import elftools, jsonschema"], capture_output=True, check=False)
     if made.returncode or has.returncode:
         pytest.skip(f"{DEBIAN} has no module venv, or lacks the tools' packages")
     return tmp_path / "bare/bin/python3"
@@ -54,10 +54,10 @@ def test_a_link_of_another_name_is_the_tool(bare: Path, tmp_path: Path) -> None:
     assert (ran.returncode, ran.stderr) == (0, "") and ran.stdout.count("0x") == 2
 
 
-@pytest.mark.parametrize("name", ["fp_budget", "fp_layout", "fp_view"])
+@pytest.mark.parametrize("name", ["fp_budget", "fp_evidence", "fp_stack"])
 def test_an_installed_tool_names_what_pip_installs(bare: Path, name: str) -> None:
     """A virtual environment's own Python runs it, since Debian's one doesn't have the package."""
     call = f"import sys; sys.argv = ['{name}', '--help']; from fptools.commands.{name} import main"
     ran = called(bare, "-c", call, PYTHONPATH=str(TOOLS))
     assert ran.returncode == 2 and ran.stderr.startswith(f"{name}: {bare} (Python")
-    assert "here: pip install pyelftools jsonschema networkx;" in ran.stderr
+    assert "here: pip install pyelftools jsonschema;" in ran.stderr

@@ -171,7 +171,7 @@ def test_a_missing_package_is_one_line_and_a_status_of_its_own(checkout: Checkou
         ran = checkout.run(*words, "--elf", "examples/c/pid.elf")
         assert (ran.returncode, ran.stdout, len(ran.stderr.splitlines())) == (NOT_BUILT, "", 1)
         assert re.match(r"fp_\w+: \S+ \(Python 3\.\d+\.\d+\) lacks pyelftools, ", ran.stderr)
-        assert ran.stderr.endswith("apt-get install python3-pyelftools python3-jsonschema python3-networkx\n")
+        assert ran.stderr.endswith("apt-get install python3-pyelftools python3-jsonschema\n")
 
 
 BY_MODEL = "flexpret: nothing of this answer is proved: the model in Python gives it\n"
