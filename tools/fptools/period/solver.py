@@ -194,7 +194,7 @@ def passes(unfolded: Unfolded, ring: Ring, place: Place) -> bool:
         if at in seen:
             continue
         seen.add(at)
-        onward = list(inner.successors(at))
+        onward = list(inner[at])
         if ring.head in onward:
             return False
         ahead += onward

@@ -9,6 +9,7 @@ from model.commands import Status as OfModel
 
 
 def test_statuses_and_limits_are_the_models() -> None:
-    assert dict(Status.__members__.items()) == dict(OfModel.__members__.items())
+    ours, theirs = ({it.name: int(it) for it in every} for every in (Status, OfModel))
+    assert ours == theirs
     assert CANNOT == Status.USAGE
     assert MOST_CYCLES == setups.MOST_CYCLES
