@@ -249,7 +249,11 @@ def image_of(asked: argparse.Namespace, setup: Setup, program: Program) -> Mappi
 def of_names(asked: argparse.Namespace) -> list[Result]:
     """The results from names alone."""
     setup, program = checked_setup(asked.setup), Program(asked.file)
-    options = {"--function": asked.function, "--from-label": [asked.from_label], "--to-label": [asked.to_label]}
+    options: dict[str, list[str | None]] = {
+        "--function": asked.function,
+        "--from-label": [asked.from_label],
+        "--to-label": [asked.to_label],
+    }
     for option, names in options.items():
         for name in filter(None, names):
             look_at_name(program, setup, asked.thread, option, name)
