@@ -5,7 +5,7 @@ import tempfile
 from dataclasses import dataclass, field
 from functools import cached_property
 from pathlib import Path
-from typing import TYPE_CHECKING, Mapping, Sequence
+from typing import TYPE_CHECKING, Collection, Mapping, Sequence
 
 from fptools.program.answers import Bound, NoAnswer, Refusal, read_answer
 from fptools.budget.files import Assumption, Budget, LoopFact, Result, Verdict
@@ -22,7 +22,7 @@ from fptools.stack.threads import NO_OTHER_TRAP
 from fptools.stack.stacks import Stack, Stacks
 from fptools.code.thread import Code, ThreadCode, entries_of
 from fptools.code.values import clobbered_by
-from fptools.isa.words import MRET, OPCODE_AUIPC, OPCODE_JALR, OPCODE_LOAD, RETURN_ADDRESS
+from fptools.isa.words import MRET, OPCODE_AUIPC, OPCODE_JALR, OPCODE_LOAD, RETURN_ADDRESS, Word
 
 if TYPE_CHECKING:
     from fptools.budget.path_facts import PathFacts
@@ -80,6 +80,8 @@ class Asked:
     notes: list[str] = field(default_factory=list)
     loops: list[LoopFact] = field(default_factory=list)
     stack: Stack | None = None
+    # Of a period: the words that lead to the code. Each of their returns has to go back to its call too.
+    before: Collection[Word] = ()
 
     @property
     def section(self) -> Section:
@@ -87,8 +89,9 @@ class Asked:
 
     @property
     def loads_a_return(self) -> bool:
-        """Whether a word of its code loads x1 or sp from memory, as a function does that calls others."""
-        words = (word for part in self.parts for word in part.reached.values())
+        """Whether a word of its code, or of what leads to it, loads x1 or sp from memory, as a
+        function does that calls others."""
+        words = [*self.before, *(word for part in self.parts for word in part.reached.values())]
         return any(it.opcode == OPCODE_LOAD and it.rd in (RETURN_ADDRESS, SP) for it in words)
 
     def assumes(self, what: Assumption, note: str) -> bool:

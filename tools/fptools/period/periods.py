@@ -276,6 +276,7 @@ class Periods:
                 for part in self._path_bounds.called_from(start):
                     words |= part.reached
         asked.parts.append(Section(0, 0, reached=words))
+        asked.before = self.thread.without_traps.words.values()
         self.judge.look_around(asked)
         expiry = self.thread.expiry
         if expiry is None and not any(it.may_trap for it in words.values()):

@@ -43,13 +43,15 @@ class Pointers:
         functions: Iterable[Function],
         called: Mapping[int, Function],
         handlers: Iterable[Function],
+        constants: Iterable[int] = (),
     ) -> None:
-        """With the functions that are called, by their addresses, and the trap handlers."""
+        """With the functions that are called, by their addresses, the trap handlers, and the words
+        of the instruction scratchpad that loads may give."""
         self._code, self._called = code, called
         self._functions, self._handlers = list(functions), list(handlers)
         self._from: defaultdict[Place, set[Value]] = defaultdict(set)
         data = (bits for at, bits in code.words.items() if at >= DATA_START)
-        self._from[MEMORY] |= {Value(None, signed(it)) for it in data}
+        self._from[MEMORY] |= {Value(None, signed(it)) for it in (*data, *constants)}
         for function in self._functions:
             for pc, known in function.before.items():
                 self._take(function, code.word(pc), known)

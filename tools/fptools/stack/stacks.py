@@ -100,7 +100,8 @@ class Stacks:
         if other := other_word(self.program, self.image):
             return Stack(table.id, Verdict.UNKNOWN, other)
         try:
-            found = deepest_of(self.setup, self.code, table, self.name)
+            constants = self._constants(table)
+            found = deepest_of(self.setup, self.code, table, self.name, constants)
             return self._fitting(table, found)
         except UnknownStack as why:
             if not self._is_used(table):
@@ -174,6 +175,28 @@ class Stacks:
             for it, write in writes
             if write is not None
         ]
+
+    def _constants(self, table: ThreadTable) -> list[int]:
+        """The words of the instruction scratchpad that a thread may load and that are no code, as
+        tables of pointers that are `const`."""
+        own = (f"T{table.id}", "readonly")
+        return [
+            bits
+            for at, bits in self._no_code.items()
+            if not table.confined or self.setup.region("i_regions", at) in own
+        ]
+
+    @cached_property
+    def _no_code(self) -> dict[int, int]:
+        """The words of the instruction scratchpad that no thread issues, and that are in no
+        function."""
+        issued = {at for it in self.code.entries for at in ThreadCode(self.code, it).whole.words}
+        functions = [range(it.start, it.end) for it in self.program.functions]
+        return {
+            it.pc: it.bits
+            for it in self.code.placed
+            if it.pc not in issued and not any(it.pc in part for part in functions)
+        }
 
     @cached_property
     def _data(self) -> list[Data]:

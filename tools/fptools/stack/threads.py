@@ -44,15 +44,20 @@ class Deepest:
 
 
 def deepest_of(
-    setup: Setup, code: Code, table: ThreadTable, name_of: Callable[[int], str]
+    setup: Setup,
+    code: Code,
+    table: ThreadTable,
+    name_of: Callable[[int], str],
+    constants: Collection[int] = (),
 ) -> Deepest:
-    """The deepest stack of a thread. Raises UnknownStack."""
+    """The deepest stack of a thread, to which loads may give words of the instruction scratchpad.
+    Raises UnknownStack."""
     traps = Traps()
     while True:
         looked = Looked(setup, code, table, Functions(code, traps, name_of))
         found = looked.effects
         if found == traps:
-            return looked.deepest()
+            return looked.deepest(constants)
         traps = Traps(traps.changed | found.changed, traps.skips or found.skips)
 
 
@@ -182,7 +187,7 @@ class Looked:
 
     # Depths.
 
-    def deepest(self) -> Deepest:
+    def deepest(self, constants: Collection[int]) -> Deepest:
         top, own = self._main_depth()
         handlers, notes = self._on_top()
         steps = (
@@ -192,7 +197,8 @@ class Looked:
         depth = Depth(own.bytes + sum(it.bytes for it in handlers), steps)
         if not self.handlers:
             notes.append(WITHOUT_TRAPS)
-        pointers = Pointers(self.code, self.all, self.functions.done, self.handlers.values())
+        handlers = self.handlers.values()
+        pointers = Pointers(self.code, self.all, self.functions.done, handlers, constants)
         return Deepest(top, depth, tuple(self._uses()), tuple(notes), tuple(pointers.stores()))
 
     def _main_depth(self) -> tuple[int, Depth]:

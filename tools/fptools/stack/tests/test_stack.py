@@ -45,6 +45,7 @@ UNKNOWN_ASSEMBLER = {
     "skips_two": "a trap handler comes back to an address that isn't known",
     "walks": "0x30 next (t0_walks.s:8): it stores by a pointer from 0x20000700, where no data of",
     "indexes": "it stores by a pointer from 0x20000700, where no data of the executable are",
+    "table": "f+0x10 (t0_table.s:16): it stores by a pointer from 0x20000740, where no data of",
     "passes": "it stores by a pointer from 0x20000700, where no data of the executable are",
     "unlinked": "main0 (t0_unlinked.s:4): a call by x5: -mno-save-restore calls by x1 only",
 }
@@ -157,6 +158,19 @@ def test_a_stack_that_does_not_fit_makes_a_period_unknown(
         assert ": the stack may not fit: 912 of 844 bytes: " in ran.stdout
     ran = asking("fp_budget", made.elf, "--setup", made.setup, "--all", "--assume", "stack fits")
     assert ran.returncode == 2 and "\nOVER     T0 stack: 912 of 844 bytes" in ran.stdout
+
+
+def test_a_return_that_is_lost_before_the_loop_makes_a_period_unknown(
+    asking: Tool, flexpret: str, tmp_path: Path
+) -> None:
+    """A period begins behind code whose returns go back: else the thread may be in another loop."""
+    made = built(flexpret, tmp_path, "lost_before", "")
+    asked = ("--setup", made.setup, "--thread", "0", "--period", "--ns", "2000")
+    ran = asking("fp_budget", made.elf, *asked)
+    assert ran.returncode == 2 and ran.stdout.startswith("UNKNOWN  T0 period of main0 ("), ran
+    assert ": whether the stack fits is unknown: " in ran.stdout
+    ran = asking("fp_budget", made.elf, *asked, "--assume", "stack fits")
+    assert ran.returncode == 0 and "assumes stack fits" in ran.stderr
 
 
 def test_a_stack_in_the_region_of_another_thread(flexpret: str, tmp_path: Path) -> None:
