@@ -164,7 +164,6 @@ NOT_SHOWN_AS_RUN = {
     "examples/sweep/table.py work": "the same",
     "cd work && gnuplot": "gnuplot isn't asked for",
     "tools/fp_budget prog.elf": "a form, with names of the reader's own",
-    "riscv64-unknown-elf-readelf": "examples/pages.sh runs it on another executable",
     "riscv64-unknown-elf-gcc": "a form; the Makefile of examples/c has the same options",
     "tools/fp_layout x.s": "a part of that form",
     "tools/fp_budget first.toml period.toml": "dev/pages/tests/test_page_facts.py",
