@@ -137,6 +137,40 @@ def test_the_gate_runs_the_model() -> None:
     assert "The gate runs its tests" in page and "--model" in page
 
 
+UNITS, COMMANDS = TOP / "crates/unit_rows/data", TOP / "crates/command_rows/data"
+
+COUNTS = [
+    (UNITS / "decode.txt", r"^(?!.*\bIllegal).*\t", "{} words of GNU as"),
+    (UNITS / "decode.txt", r"^.*\bIllegal.*\t", "{} words of other extensions are illegal"),
+    (UNITS / "results.txt", r"\t", "{} runs by qemu-riscv32"),
+    (UNITS / "sources.txt", r"\t", "{} sources with images or faults"),
+    (UNITS / "gnu.txt", r"\t", "{} lines with words by GNU as"),
+    (UNITS / "elf.txt", r"\t", "{} executables,"),
+    (UNITS / "bounds.txt", r"^(?:bound|refused) .*\t", "{} sections and"),
+    (COMMANDS / "calls.txt", r"^=== ", "{} sections with functions"),
+    (COMMANDS / "worlds.txt", r"^=== ", "{} random setups with images and ports"),
+    (COMMANDS / "worlds.txt", r"^--- \d+ \$ solo ", "`solo` of {} confined hard threads"),
+    (COMMANDS / "settings.txt", r"^=== ", "{} random setups with writes of slots and modes"),
+    (COMMANDS / "settings.txt", r"^--- \d+ \$ run ", "`run` of {} confined threads"),
+]
+"""Tables, what begins a row of them, and what TESTING says of their number."""
+
+
+@pytest.mark.parametrize("table, row, said", COUNTS)
+def test_the_numbers_of_rows_are_those_of_the_tables(table: Path, row: str, said: str) -> None:
+    number = sum(bool(re.search(row, line)) for line in table.read_text().splitlines())
+    assert said.format(f"{number:,}") in text_of("dev/TESTING.md")
+
+
+def test_the_runs_through_the_pipeline_and_the_setups_are_counted() -> None:
+    page = text_of("dev/TESTING.md")
+    runs = len((UNITS / "programs.txt").read_text().splitlines())
+    assert runs == 6 and "six runs through the pipeline" in page
+    setups = len(re.findall(r"^=== ", (UNITS / "setups.txt").read_text(), re.M))
+    model, others = re.findall(r"(\d+) setups of the model .*?, and (\d+) others", page)[0]
+    assert setups == int(model) + int(others)
+
+
 PAGES = sorted(
     [
         TOP / "README.md",
