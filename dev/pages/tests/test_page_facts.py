@@ -137,6 +137,30 @@ def test_the_gate_runs_the_model() -> None:
     assert "The gate runs its tests" in page and "--model" in page
 
 
+ONE_WORD = {
+    r"\bvisits?\b": "execution",
+    r"\bround[- ]robin\b": "the circle of soft threads",
+    r"\bheld\b(?! again)": "only of a DU, and then as code",
+    r"(?<!run is )\b[Qq]uiet\b(?! runs?\b|\*|\])": "only of a run",
+}
+"""Words that the pages for users have no other meaning for, each with what they say instead."""
+
+
+def words_of(page: Path) -> str:
+    """The text of a page without code and the targets of links. The glossary's row of the definitions' word is left out."""
+    lines = page.read_text().splitlines()
+    shown = [it for it in lines if not it.startswith(("    ", "| execution, visit", "| held |", "<!--"))]
+    return re.sub(r"`[^`]*`|\]\([^)]*\)", "]", " ".join(shown))
+
+
+def test_one_word_has_one_meaning() -> None:
+    pages = [TOP / "README.md", *(TOP / "docs").glob("*.md"), TOP / "rtl/README.md", TOP / "tools/README.md"]
+    for page in pages + [*(TOP / "examples").rglob("README.md")]:
+        for word, instead in ONE_WORD.items():
+            found = re.search(word, words_of(page))
+            assert found is None, f"{page.name}: {found[0] if found else ''}: {instead}"
+
+
 UNITS, COMMANDS = TOP / "crates/unit_rows/data", TOP / "crates/command_rows/data"
 
 COUNTS = [
