@@ -1,12 +1,14 @@
 """Statements of the pages that no table holds: each is compared with the tree or the model."""
 from __future__ import annotations
 
+import json
 import os
 import re
 import subprocess
 import sys
 import tomllib
 from pathlib import Path
+from typing import Any
 
 import pytest
 from fptools.testing.common import TOP, document
@@ -135,6 +137,44 @@ def test_the_gate_runs_the_model() -> None:
     page, gate = (TOP / "model/README.md").read_text(), (TOP / "dev/gate/gate.py").read_text()
     assert "'-m', 'model.tables.check'" in gate and "pytest('model', 'model', 1)" in gate
     assert "The gate runs its tests" in page and "--model" in page
+
+
+def rows_under(page: Path, heading: str) -> list[str]:
+    """The first cell of each row of the tables under a heading, without code marks."""
+    part = page.read_text().split(f"\n{heading}\n", 1)[1].split("\n## ", 1)[0]
+    return [it.split("|")[1].strip() for it in part.splitlines() if re.match(r"\| `", it)]
+
+
+def keys_of(schema: dict[str, Any]) -> set[str]:
+    """The keys of a schema's tables, at any depth."""
+    found = set(schema.get("properties", {}))
+    for part in schema.values():
+        for inner in part if isinstance(part, list) else [part]:
+            if isinstance(inner, dict):
+                found |= keys_of(inner)
+    return found
+
+
+@pytest.mark.parametrize(
+    "heading, schema, more", [("## Setups", "setup", set()), ("## Budgets", "budgets", {"budget"})]
+)
+def test_the_keys_of_files_are_those_of_their_schema(heading: str, schema: str, more: set[str]) -> None:
+    rows = rows_under(TOP / "docs/FORMATS.md", heading)
+    shown = {key for row in rows for key in re.findall(r"`(\w+)`", row)} | more
+    assert shown == keys_of(json.loads((TOP / f"tools/{schema}.schema.json").read_text()))
+
+
+def test_each_tool_has_a_row() -> None:
+    shown = set(re.findall(r"`(\w+|install\.sh)`", " ".join(rows_under(TOP / "tools/README.md", "## Which tool for what"))))
+    tools = {it.name for it in (TOP / "tools").glob("fp_*")} - {"fp_launch", "fp_model"}
+    assert shown == tools | {"install.sh"}
+
+
+def test_each_option_of_the_script_has_a_row() -> None:
+    """What ./flexpret --help shows, but for the arguments of its commands."""
+    text = (TOP / "flexpret").read_text().split("END_OF_HELP")[1]
+    options = set(re.findall(r"--\w+", text)) - {"--thread", "--cycles", "--trace", "--from", "--to", "--routines"}
+    assert options == set(re.findall(r"--\w+", " ".join(rows_under(TOP / "docs/COMMANDS.md", "## The script"))))
 
 
 ONE_WORD = {
