@@ -88,18 +88,9 @@ as_in "$here/c/pid.bound" 'python3 -m model bound examples/c/pid.toml --thread 0
 # A form of the view's arguments.
 known['./flexpret-view turns SETUP --from CYCLE --to CYCLE [--konata FILE | --vcd FILE | --svg FILE] [--progress UNTIL]']=run
 
-# The setup with each key, and the list of an executable's functions.
+# The setup with each key.
 sed -n '/^```toml$/,/^```$/{/^```/d; p}' "$top/docs/FORMATS.md" >each-key.toml
 ./flexpret run each-key.toml --thread 0 --cycles 9 >"$work/written" || fail 'the setup with each key'
-if command -v riscv64-unknown-elf-readelf >/dev/null; then
-    cp "$here/c/pid.elf" prog.elf
-    sed -n '/^    .*readelf -sW prog.elf/,/done$/s/^    //p' "$top/docs/BOUNDS.md" >list
-    if [ "$(bash list | tr '\n' ,)" = '0000001c 00000050,0000081c 00000874,' ]; then
-        echo 'as shown: the list of functions'
-    else
-        fail 'the list of functions'
-    fi
-fi
 
 for page in README.md docs/{COMMANDS,BOUNDS,VIEW,FORMATS,PROGRAMMING,ASSUMPTIONS}.md model/README.md; do
     read_page "$top/$page"

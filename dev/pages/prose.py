@@ -3,11 +3,11 @@
 usage: python3 -m dev.pages.prose [--longest N] [PAGE..]
 
 Without a page: README.md and the pages of docs/ itself, which have at most MOST_WORDS words together, counted as `wc -w`
-does; then all other pages, the man pages, and the texts of `--help` of the tools. The limits of sentences are of each
-group: a mean of fewer than 18 words in paragraphs and lists; no sentence of more than 35 words, in tables too. A piece
-of code or a link's target counts as one word of its sentence; blocks of code have no sentences. In CHANGELOG, man pages
-and `--help` a semicolon ends a sentence too, since it separates items. Status: 0 the limits
-hold; 1 one doesn't; 2 a page can't be read.
+does; then all other pages, the man pages, and the texts of `--help` of the tools and scripts. The limits of sentences
+are of each group: a mean of fewer than 18 words in paragraphs and lists; no sentence of more than 35 words, in tables
+too. A piece of code or a link's target counts as one word of its sentence; blocks of code have no sentences. In
+CHANGELOG, man pages and `--help` a semicolon ends a sentence too, since it separates items. Status: 0 the limits hold;
+1 one doesn't; 2 a page can't be read.
 """
 from __future__ import annotations
 
@@ -15,7 +15,7 @@ import argparse
 import ast
 import re
 import sys
-from collections.abc import Iterator
+from collections.abc import Iterator, Mapping
 from dataclasses import dataclass
 from pathlib import Path
 
@@ -102,18 +102,21 @@ def user_pages() -> list[Path]:
 
 
 def other_pages() -> list[Path]:
-    """All other pages, man pages, and tools with a `--help`."""
+    """All other pages, man pages, and the tools and scripts with a `--help`."""
     pages = [*(TOP / "docs/dev").glob("*.md"), TOP / "CHANGELOG.md", TOP / "tools/README.md"]
     pages += [*(TOP / "examples").rglob("README.md"), TOP / "model/README.md", TOP / "rtl/README.md"]
-    tools = [*(TOP / "tools/fptools/commands").glob("fp_*.py"), TOP / "tools/fp_launch"]
+    tools = [*(TOP / "tools/fptools/commands").glob("fp_*.py"), TOP / "tools/fp_launch", TOP / "tools/install.sh"]
+    tools += [TOP / "flexpret", TOP / "flexpret-view"]
     return sorted(pages) + sorted((TOP / "tools").glob("*.1")) + sorted(tools)
 
 
 def text_of(page: Path) -> str:
-    """A page as Markdown has it: of a man page its text, of a tool what its `--help` says."""
+    """A page as Markdown has it: of a man page its text, of a tool or script what its `--help` says."""
     text = page.read_text()
     if page.suffix == ".1":
         text = of_man_page(text)
+    elif re.match(r"#!.*\bbash\b", text):
+        text = of_script(text)
     elif page.suffix in ("", ".py"):
         text = of_help(text)
     elif page.name != "CHANGELOG.md":
@@ -139,11 +142,45 @@ def of_man_page(text: str) -> str:
 def of_help(text: str) -> str:
     """The docstring of a tool, and its helps of arguments. Lines further in than the others are code."""
     tree = ast.parse(text)
+    named = dict(named_texts(tree))
     parts = [ast.get_docstring(tree) or ""]
     for node in ast.walk(tree):
-        if isinstance(node, ast.keyword) and node.arg == "help" and isinstance(node.value, ast.Constant):
-            parts.append(str(node.value.value))
+        if isinstance(node, ast.keyword) and node.arg in ("help", "description", "epilog"):
+            parts.append(literal(node.value, named))
     return "\n\n".join(parts)
+
+
+def named_texts(tree: ast.Module) -> Iterator[tuple[str, str]]:
+    """The names of texts in a module, also those that it imports of the package of tools."""
+    for node in ast.walk(tree):
+        if isinstance(node, ast.Assign) and isinstance(node.targets[0], ast.Name):
+            yield node.targets[0].id, literal(node.value, {})
+        elif isinstance(node, ast.ImportFrom) and (node.module or "").startswith("fptools."):
+            source = TOP / "tools" / f"{(node.module or '').replace('.', '/')}.py"
+            wanted = {it.name for it in node.names if it.name.isupper()}
+            if wanted and source.is_file():
+                yield from (it for it in named_texts(ast.parse(source.read_text())) if it[0] in wanted)
+
+
+def literal(node: ast.expr, named: Mapping[str, str]) -> str:
+    """A text as a source has it: what an f-string computes is one word."""
+    if isinstance(node, ast.Constant):
+        return node.value if isinstance(node.value, str) else ""
+    if isinstance(node, ast.JoinedStr):
+        return "".join(literal(it, named) if isinstance(it, ast.Constant) else "CODE" for it in node.values)
+    if isinstance(node, ast.BinOp):
+        return literal(node.left, named) + literal(node.right, named)
+    return named.get(node.id, "") if isinstance(node, ast.Name) else ""
+
+
+def of_script(text: str) -> str:
+    """The help of a script of bash: its text between END_OF_HELP, an item for each line further in. Without one, the
+    comment at its head."""
+    found = re.search(r"<<'END_OF_HELP'\n(.*?)^END_OF_HELP$", text, re.S | re.M)
+    if found is None:
+        head = re.match(r"#!.*\n((?:#.*\n)*)", text)
+        return re.sub(r"^# ?", "", head[1] if head else "", flags=re.M)
+    return re.sub(r"^ {1,8}(?=\S)", "\n", found[1], flags=re.M)
 
 
 @dataclass(frozen=True)

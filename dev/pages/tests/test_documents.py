@@ -66,6 +66,21 @@ def test_man_pages_and_helps_are_read(tmp_path: Path) -> None:
     assert status == 1 and "it.1:3: 41 words" in text and "40 words" in text and "30 words" not in text
 
 
+def test_computed_helps_and_scripts_are_read(tmp_path: Path) -> None:
+    """A help may be an f-string, a name, or a name of another module; a script's help is behind END_OF_HELP."""
+    tool, script = tmp_path / "fp_it", tmp_path / "it"
+    tool.write_text(
+        '"""Short."""\nfrom fptools.program.calls import HELP\nwhat = "' + "word " * 36 + '"\n'
+        'add("a", help=what)\nadd("b", help=f"' + "word " * 40 + '{N}")\nadd("c", help=HELP)\n'
+    )
+    script.write_text(
+        "#!/usr/bin/env bash\ncat <<'END_OF_HELP'\n  --it  " + "word " * 37 + "\n  --more  an item of its own\nEND_OF_HELP\n"
+    )
+    status, text = said("prose.py", "--longest", 9, tool, script)
+    assert status == 1 and "36 words: word" in text and "41 words: word" in text and "38 words: --it" in text
+    assert "the variable FLEXPRET names" in text
+
+
 @pytest.mark.parametrize(
     "line", ["- item\n  goes on", "| a | b |\n|---|---|\n| one | two |", "1. first\n2. second", "`code` [link](x.md)"]
 )

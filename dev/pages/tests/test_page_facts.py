@@ -1,12 +1,14 @@
 """Statements of the pages that no table holds: each is compared with the tree or the model."""
 from __future__ import annotations
 
+import json
 import os
 import re
 import subprocess
 import sys
 import tomllib
 from pathlib import Path
+from typing import Any
 
 import pytest
 from dev.gate.parts import parts
@@ -138,6 +140,102 @@ def test_the_gate_runs_the_model() -> None:
     assert "The gate runs its tests" in page and "--model" in page
 
 
+def rows_under(page: Path, heading: str) -> list[str]:
+    """The first cell of each row of the tables under a heading, without code marks."""
+    part = page.read_text().split(f"\n{heading}\n", 1)[1].split("\n## ", 1)[0]
+    return [it.split("|")[1].strip() for it in part.splitlines() if re.match(r"\| `", it)]
+
+
+def keys_of(schema: dict[str, Any]) -> set[str]:
+    """The keys of a schema's tables, at any depth."""
+    found = set(schema.get("properties", {}))
+    for part in schema.values():
+        for inner in part if isinstance(part, list) else [part]:
+            if isinstance(inner, dict):
+                found |= keys_of(inner)
+    return found
+
+
+@pytest.mark.parametrize(
+    "heading, schema, more", [("## Setups", "setup", set()), ("## Budgets", "budgets", {"budget"})]
+)
+def test_the_keys_of_files_are_those_of_their_schema(heading: str, schema: str, more: set[str]) -> None:
+    rows = rows_under(TOP / "docs/FORMATS.md", heading)
+    shown = {key for row in rows for key in re.findall(r"`(\w+)`", row)} | more
+    assert shown == keys_of(json.loads((TOP / f"tools/{schema}.schema.json").read_text()))
+
+
+def test_each_tool_has_a_row() -> None:
+    shown = set(re.findall(r"`(\w+|install\.sh)`", " ".join(rows_under(TOP / "tools/README.md", "## Which tool for what"))))
+    tools = {it.name for it in (TOP / "tools").glob("fp_*")} - {"fp_launch", "fp_model"}
+    assert shown == tools | {"install.sh"}
+
+
+def test_each_option_of_the_script_has_a_row() -> None:
+    """What ./flexpret --help shows, but for the arguments of its commands."""
+    text = (TOP / "flexpret").read_text().split("END_OF_HELP")[1]
+    options = set(re.findall(r"--\w+", text)) - {"--thread", "--cycles", "--trace", "--from", "--to", "--routines"}
+    assert options == set(re.findall(r"--\w+", " ".join(rows_under(TOP / "docs/COMMANDS.md", "## The script"))))
+
+
+ONE_WORD = {
+    r"\bvisits?\b": "execution",
+    r"\bround[- ]robin\b": "the circle of soft threads",
+    r"\bheld\b(?! again)": "only of a DU, and then as code",
+    r"(?<!run is )\b[Qq]uiet\b(?! runs?\b|\*|\])": "only of a run",
+}
+"""Words that the pages for users have no other meaning for, each with what they say instead."""
+
+
+def words_of(page: Path) -> str:
+    """The text of a page without code and the targets of links. The glossary's row of the definitions' word is left out."""
+    lines = page.read_text().splitlines()
+    shown = [it for it in lines if not it.startswith(("    ", "| execution, visit", "| held |", "<!--"))]
+    return re.sub(r"`[^`]*`|\]\([^)]*\)", "]", " ".join(shown))
+
+
+def test_one_word_has_one_meaning() -> None:
+    pages = [TOP / "README.md", *(TOP / "docs").glob("*.md"), TOP / "rtl/README.md", TOP / "tools/README.md"]
+    for page in pages + [*(TOP / "examples").rglob("README.md")]:
+        for word, instead in ONE_WORD.items():
+            found = re.search(word, words_of(page))
+            assert found is None, f"{page.name}: {found[0] if found else ''}: {instead}"
+
+
+UNITS, COMMANDS = TOP / "crates/unit_rows/data", TOP / "crates/command_rows/data"
+
+COUNTS = [
+    (UNITS / "decode.txt", r"^(?!.*\bIllegal).*\t", "{} words of GNU as"),
+    (UNITS / "decode.txt", r"^.*\bIllegal.*\t", "{} words of other extensions are illegal"),
+    (UNITS / "results.txt", r"\t", "{} runs by qemu-riscv32"),
+    (UNITS / "sources.txt", r"\t", "{} sources with images or faults"),
+    (UNITS / "gnu.txt", r"\t", "{} lines with words by GNU as"),
+    (UNITS / "elf.txt", r"\t", "{} executables,"),
+    (UNITS / "bounds.txt", r"^(?:bound|refused) .*\t", "{} sections and"),
+    (COMMANDS / "calls.txt", r"^=== ", "{} sections with functions"),
+    (COMMANDS / "worlds.txt", r"^=== ", "{} random setups with images and ports"),
+    (COMMANDS / "worlds.txt", r"^--- \d+ \$ solo ", "`solo` of {} confined hard threads"),
+    (COMMANDS / "settings.txt", r"^=== ", "{} random setups with writes of slots and modes"),
+    (COMMANDS / "settings.txt", r"^--- \d+ \$ run ", "`run` of {} confined threads"),
+]
+"""Tables, what begins a row of them, and what TESTING says of their number."""
+
+
+@pytest.mark.parametrize("table, row, said", COUNTS)
+def test_the_numbers_of_rows_are_those_of_the_tables(table: Path, row: str, said: str) -> None:
+    number = sum(bool(re.search(row, line)) for line in table.read_text().splitlines())
+    assert said.format(f"{number:,}") in text_of("dev/TESTING.md")
+
+
+def test_the_runs_through_the_pipeline_and_the_setups_are_counted() -> None:
+    page = text_of("dev/TESTING.md")
+    runs = len((UNITS / "programs.txt").read_text().splitlines())
+    assert runs == 6 and "six runs through the pipeline" in page
+    setups = len(re.findall(r"^=== ", (UNITS / "setups.txt").read_text(), re.M))
+    model, others = re.findall(r"(\d+) setups of the model .*?, and (\d+) others", page)[0]
+    assert setups == int(model) + int(others)
+
+
 PAGES = sorted(
     [
         TOP / "README.md",
@@ -165,7 +263,6 @@ NOT_SHOWN_AS_RUN = {
     "examples/sweep/table.py work": "the same",
     "cd work && gnuplot": "gnuplot isn't asked for",
     "tools/fp_budget prog.elf": "a form, with names of the reader's own",
-    "riscv64-unknown-elf-readelf": "examples/pages.sh runs it on another executable",
     "riscv64-unknown-elf-gcc": "a form; the Makefile of examples/c has the same options",
     "tools/fp_layout x.s": "a part of that form",
     "tools/fp_budget first.toml period.toml": "dev/pages/tests/test_page_facts.py",

@@ -142,7 +142,7 @@ def _image(setup: Setup) -> tuple[dict[int, int] | None, list[Said]]:
         return None, [error(("image",), str(fault))]
     except OSError as fault:
         beside = setup.path.parent / image.name
-        hint = f"; {beside} is there: names are seen from the folder of the call" if beside.is_file() else ""
+        hint = f"; {beside} is there: names are relative to the folder of the call" if beside.is_file() else ""
         return None, [warning(("image",), f"{image} can't be read from here: {fault.strerror}{hint}")]
     except ValueError as fault:  # a name with a zero byte
         return None, [warning(("image",), f"can't be read: {fault}")]

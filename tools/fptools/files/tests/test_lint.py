@@ -138,7 +138,7 @@ def test_images_that_the_program_refuses(
 def test_an_image_beside_the_setup_is_named(tool: Tool, tmp_path: Path) -> None:
     (tmp_path / "own.fpx").write_bytes((TOP / "examples/sum.fpx").read_bytes())
     _, lines = said(tool, tmp_path, changed(('examples/sum.fpx"', 'own.fpx"')))
-    assert lines[0].endswith(f"; {tmp_path}/own.fpx is there: names are seen from the folder of the call")
+    assert lines[0].endswith(f"; {tmp_path}/own.fpx is there: names are relative to the folder of the call")
 
 
 def test_an_expiry_without_a_handler(tool: Tool, tmp_path: Path) -> None:
