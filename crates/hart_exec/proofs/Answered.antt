@@ -22,7 +22,7 @@ use Rattle.trap_unit.specs.declared.unit.CsrNo.TheVariants.{BadValue}
 use Rattle.trap_unit.specs.Access.{answer_by, done_with, guard_after, sched_after, traps_after}
 use Rattle.trap_unit.specs.Rows.{with_trap}
 use Rattle.hart_exec.specs.declared.hart.Hart.{Hart}
-use Rattle.hart_exec.specs.declared.outcome.ExecResult.{ExecResult}
+use Rattle.hart_exec.specs.declared.result.ExecResult.{ExecResult}
 use Rattle.hart_exec.specs.Units.{Refines, Units, abstract_result}
 use Rattle.hart_exec.specs.Units.{own_of, row_of, units_after, units_of}
 use Rattle.hart_exec.proofs.Left.{left, sleep_kept, timers_kept}

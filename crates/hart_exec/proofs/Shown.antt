@@ -12,7 +12,7 @@ use Rattle.core_model.specs.Issue.{execute_untrapped, run_at}
 use Rattle.hart_exec.specs.Effects.{HasWord}
 use Rattle.hart_exec.specs.Units.{Refines, Units, units_after, units_of}
 use Rattle.hart_exec.specs.declared.hart.Hart.{Hart}
-use Rattle.hart_exec.specs.declared.outcome.ExecResult.{ExecResult}
+use Rattle.hart_exec.specs.declared.result.ExecResult.{ExecResult}
 use Rattle.hart_exec.proofs.Zero.{shown}
 
 word-shown : (e : Option Effect) (word : ℕ) → word ≢ 0 → HasWord e word

@@ -14,7 +14,7 @@ use Rattle.core_model.specs.Thread.{Environment, Execution}
 use Rattle.trap_unit.specs.Access.{shared_value, sched_after, guard_after}
 use Rattle.trap_unit.specs.Rows.{trap_of}
 use Rattle.hart_exec.specs.declared.hart.Hart.{Hart}
-use Rattle.hart_exec.specs.declared.outcome.ExecResult.{ExecResult}
+use Rattle.hart_exec.specs.declared.result.ExecResult.{ExecResult}
 
 -- the units as plain values
 pub record Units : Type 0 where

@@ -7,8 +7,8 @@ ghost use Rattle.hart_exec.specs.Effects.{IsPrintableEffect, IsAlignedStore};
 ghost use Rattle.hart_exec.specs.Units.{Holds, Refines, environment_of, own_of};
 
 use crate::hart::Hart;
-use crate::outcome::{ExecResult, PcWord};
-use crate::parts::{advance, trap, write};
+use crate::outcomes::{advance, trap, write};
+use crate::result::{ExecResult, PcWord};
 use rv_decode::{CsrKind, Ins, lag_of};
 use rv_exec::{Effect, cause};
 use trap_unit::CsrOp;

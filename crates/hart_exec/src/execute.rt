@@ -15,8 +15,8 @@ ghost use Rattle.hart_exec.specs.Units.{Holds, Refines, environment_of, own_of, 
 use crate::csr::{Access, access_csr};
 use crate::hart::Hart;
 use crate::memory::{load, store};
-use crate::outcome::{ExecResult, PcWord, Sources};
-use crate::parts::{branch_on, jump, pass, return_from_trap, trap, trap_if_rare, write};
+use crate::outcomes::{branch_on, jump, pass, return_from_trap, trap, trap_if_rare, write};
+use crate::result::{ExecResult, PcWord, Sources};
 use crate::timing::{arm, delay_until, disarm, read_high, read_low, wait_until};
 use rv_decode::{Ins, decode};
 use rv_exec::{Outcome, cause, execute};

@@ -8,8 +8,8 @@ ghost use Rattle.hart_exec.specs.Effects.{IsPrintableEffect, IsAlignedStore};
 ghost use Rattle.hart_exec.specs.Units.{Holds, Refines, environment_of, own_of, units_of};
 
 use crate::hart::Hart;
-use crate::outcome::{ExecResult, PcWord};
-use crate::parts::{advance, trap_if_rare};
+use crate::outcomes::{advance, trap_if_rare};
+use crate::result::{ExecResult, PcWord};
 use rv_decode::{Ins, LoadOp, StoreOp, lag_of};
 use rv_exec::{Effect, cause, load_size, store_size};
 

@@ -9,8 +9,8 @@ ghost use Rattle.hart_exec.specs.Effects.{IsPrintableEffect, IsAlignedStore};
 ghost use Rattle.hart_exec.specs.Units.{Holds, Refines, RefinesInPlace, own_of};
 
 use crate::hart::Hart;
-use crate::outcome::{ExecResult, PcWord};
-use crate::parts::{advance, pass, write};
+use crate::outcomes::{advance, pass, write};
+use crate::result::{ExecResult, PcWord};
 use rv_decode::{Ins, lag_of};
 use rv_exec::Effect;
 

@@ -14,7 +14,7 @@ use Rattle.core_model.specs.Thread.{Environment, Execution, no_own}
 use Rattle.core_model.specs.Issue.{execute_in}
 use Rattle.core_model.specs.World.{registers_after}
 use Rattle.hart_exec.specs.declared.hart.Hart.{Hart}
-use Rattle.hart_exec.specs.declared.outcome.ExecResult.{ExecResult}
+use Rattle.hart_exec.specs.declared.result.ExecResult.{ExecResult}
 use Rattle.hart_exec.specs.Units.{Refines, Units, environment_of, abstract_result}
 use Rattle.hart_exec.specs.Units.{guard_by, own_of, sched_by, units_after, units_of}
 use Rattle.pipe_model.specs.declared.stage_registers.Decoded.{Decoded}

@@ -31,7 +31,7 @@ use Rattle.timer_unit.specs.Time.{no_timer}
 use Rattle.trap_unit.specs.Access.{guard_after}
 use Rattle.trap_unit.specs.Rows.{no_trap}
 use Rattle.hart_exec.specs.declared.hart.Hart.{Hart}
-use Rattle.hart_exec.specs.declared.outcome.ExecResult.{ExecResult}
+use Rattle.hart_exec.specs.declared.result.ExecResult.{ExecResult}
 use Rattle.hart_exec.specs.Units.{Refines, Units, environment_of, abstract_result}
 use Rattle.hart_exec.specs.Units.{guard_by, row_of, units_after, units_of}
 use Rattle.solo_run.proofs.OwnStore.{kind-is}

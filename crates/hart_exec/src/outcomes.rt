@@ -12,7 +12,7 @@ ghost use Rattle.hart_exec.specs.Effects.{IsPrintableEffect, IsAlignedStore, Has
 ghost use Rattle.hart_exec.specs.Units.{Holds, Refines, RefinesInPlace, own_of, units_of};
 
 use crate::hart::Hart;
-use crate::outcome::{ExecResult, PcWord};
+use crate::result::{ExecResult, PcWord};
 use rv_decode::{Ins, REDIRECT_LAG, lag_of};
 use rv_exec::Effect;
 
