@@ -83,13 +83,13 @@ abstract_result own x =
     }
 
 -- an executed instruction refines the defined one, in its result and in the units after it
-pub record Refines (before after : Hart) (x : ExecResult) (d : Execution) : Type 0 where
+pub record RefinesExecution (before after : Hart) (x : ExecResult) (d : Execution) : Type 0 where
   pub did : abstract_result d.own x ≡ d
   pub units : units_of after ≡ units_after before.thread d (units_of before)
 
 -- it does so and changes no unit, whatever the units are
 abbrev pub RefinesInPlace : ExecResult → (Own → Execution) → Type 0
-RefinesInPlace x d = (h : Hart) → Refines h h x (d (own_of h))
+RefinesInPlace x d = (h : Hart) → RefinesExecution h h x (d (own_of h))
 
 -- the same thread, time and rights, with references to the same units; the content of a unit may
 -- differ

@@ -4,7 +4,7 @@ ghost use Rattle.std.specs.Prelude.{◌≡◌, ◌<◌, ◌%◌, false};
 ghost use Rattle.rv_decode.specs.Lag.{lag, redirect_lag};
 ghost use Rattle.core_model.specs.Csr.{csr_access};
 ghost use Rattle.hart_exec.specs.Effects.{IsPrintableEffect, IsAlignedStore};
-ghost use Rattle.hart_exec.specs.Units.{Holds, Refines, environment_of, own_of};
+ghost use Rattle.hart_exec.specs.Units.{Holds, RefinesExecution, environment_of, own_of};
 
 use crate::hart::Hart;
 use crate::outcomes::{advance, trap, write};
@@ -64,7 +64,7 @@ pub fn access_csr(
     requires pc { at.pc % 4 ≡ 0 }
     requires lag { lag i.now false false ≡ redirect_lag }
     ensures holds { Holds hart.old hart.new }
-    ensures refines { Refines hart.old hart.new result (csr_access hart.old.thread at.pc
+    ensures refines { RefinesExecution hart.old hart.new result (csr_access hart.old.thread at.pc
         (own_of hart.old) at.word rd csr wanted.op wanted.operand wanted.writes
         ((environment_of hart.old).shared csr)) }
     ensures pc { result.pc % 4 ≡ 0 }

@@ -10,7 +10,7 @@ ghost use Rattle.core_model.specs.Traps.{trapped};
 ghost use Rattle.rv_exec.specs.TrapCauses.{cause_expiry};
 ghost use Rattle.hart_exec.specs.Effects.{IsPrintableEffect, IsAlignedStore, HasWord, HasTarget};
 ghost use Rattle.hart_exec.specs.Effects.{is_rare, is_frequent};
-ghost use Rattle.hart_exec.specs.Units.{Holds, Refines, environment_of, own_of, units_of};
+ghost use Rattle.hart_exec.specs.Units.{Holds, RefinesExecution, environment_of, own_of, units_of};
 
 use crate::csr::{Access, access_csr};
 use crate::hart::Hart;
@@ -58,7 +58,7 @@ fn execute_untrapped<const RARE: bool>(
     ensures all { RARE ≡ true → is_some result ≡ true }
     ensures left { result ≡ None → units_of hart.new ≡ units_of hart.old }
     ensures holds { Holds hart.old hart.new }
-    ensures refines { IfSome result (λ x. Refines hart.old hart.new x (execute_untrapped
+    ensures refines { IfSome result (λ x. RefinesExecution hart.old hart.new x (execute_untrapped
         (environment_of hart.old) at.pc (own_of hart.old) at.word s.a s.b o.now i.now)) }
     ensures frequent { RARE ≡ false → is_some result ≡ is_frequent i.now (execute_untrapped
         (environment_of hart.old) at.pc (own_of hart.old) at.word s.a s.b o.now i.now) }
@@ -113,7 +113,7 @@ fn run_at<const RARE: bool>(
     ensures all { RARE ≡ true → is_some result ≡ true }
     ensures left { result ≡ None → units_of hart.new ≡ units_of hart.old }
     ensures holds { Holds hart.old hart.new }
-    ensures refines { IfSome result (λ x. Refines hart.old hart.new x (run_at
+    ensures refines { IfSome result (λ x. RefinesExecution hart.old hart.new x (run_at
         (environment_of hart.old) at.pc
         (own_of hart.old) at.word s.a s.b i.now)) }
     ensures frequent { RARE ≡ false → is_some result ≡ is_frequent i.now (run_at
@@ -136,7 +136,7 @@ fn run_at<const RARE: bool>(
 fn expire(hart: &mut Hart<'_>, at: PcWord) -> ExecResult
     requires { at.pc % 4 ≡ 0 }
     ensures holds { Holds hart.old hart.new }
-    ensures refines { Refines hart.old hart.new result (trapped at.pc
+    ensures refines { RefinesExecution hart.old hart.new result (trapped at.pc
         (with_armed (own_of hart.old) None) 0 cause_expiry) }
     ensures pc { result.pc % 4 ≡ 0 }
     ensures printable { IsPrintableEffect result.effect }
@@ -166,7 +166,7 @@ fn execute_some<const RARE: bool, LOOP>(
     ensures all { RARE ≡ true → is_some result ≡ true }
     ensures left { result ≡ None → units_of hart.new ≡ units_of hart.old }
     ensures holds { Holds hart.old hart.new }
-    ensures refines { IfSome result (λ x. Refines hart.old hart.new x (execute_in
+    ensures refines { IfSome result (λ x. RefinesExecution hart.old hart.new x (execute_in
         (environment_of hart.old) at.pc
         (own_of hart.old) expired at.word s.a s.b)) }
     ensures frequent { RARE ≡ false → is_some result ≡
@@ -202,7 +202,7 @@ pub fn execute_frequent<LOOP>(
     requires { at.pc % 4 ≡ 0 }
     ensures left { result ≡ None → units_of hart.new ≡ units_of hart.old }
     ensures holds { Holds hart.old hart.new }
-    ensures refines { IfSome result (λ x. Refines hart.old hart.new x (execute_in
+    ensures refines { IfSome result (λ x. RefinesExecution hart.old hart.new x (execute_in
         (environment_of hart.old) at.pc
         (own_of hart.old) expired at.word s.a s.b)) }
     ensures frequent { is_some result ≡
@@ -225,8 +225,8 @@ pub fn execute_frequent<LOOP>(
 pub fn execute_in<LOOP>(hart: &mut Hart<'_>, at: PcWord, expired: bool, s: Sources) -> ExecResult
     requires { at.pc % 4 ≡ 0 }
     ensures holds { Holds hart.old hart.new }
-    ensures refines { Refines hart.old hart.new result (execute_in (environment_of hart.old) at.pc
-        (own_of hart.old) expired at.word s.a s.b) }
+    ensures refines { RefinesExecution hart.old hart.new result (execute_in
+        (environment_of hart.old) at.pc (own_of hart.old) expired at.word s.a s.b) }
     ensures pc { result.pc % 4 ≡ 0 }
     ensures printable { IsPrintableEffect result.effect }
     ensures store { IsAlignedStore result.effect }

@@ -9,7 +9,7 @@ ghost use Rattle.core_model.specs.Outcomes.{plus, advance, write, go_to, branch}
 ghost use Rattle.rv_exec.specs.Line.{IsPrintable};
 ghost use Rattle.rv_exec.specs.declared.outcome.Effect.TheVariants.{Nothing};
 ghost use Rattle.hart_exec.specs.Effects.{IsPrintableEffect, IsAlignedStore, HasWord};
-ghost use Rattle.hart_exec.specs.Units.{Holds, Refines, RefinesInPlace, own_of, units_of};
+ghost use Rattle.hart_exec.specs.Units.{Holds, RefinesExecution, RefinesInPlace, own_of, units_of};
 
 use crate::hart::Hart;
 use crate::result::{ExecResult, PcWord};
@@ -55,8 +55,8 @@ pub fn advance(at: PcWord, lag: u64, effect: Effect) -> ExecResult
 pub fn trap(hart: &mut Hart<'_>, at: PcWord, cause: u8) -> ExecResult
     requires { at.pc % 4 ≡ 0 }
     ensures holds { Holds hart.old hart.new }
-    ensures refines { Refines hart.old hart.new result (trapped at.pc (own_of hart.old) at.word
-        cause) }
+    ensures refines { RefinesExecution hart.old hart.new result
+        (trapped at.pc (own_of hart.old) at.word cause) }
     ensures pc { result.pc % 4 ≡ 0 }
     ensures printable { IsPrintableEffect result.effect }
     ensures store { IsAlignedStore result.effect }
@@ -85,7 +85,7 @@ pub fn trap_if_rare<const RARE: bool>(
     ensures all { RARE ≡ true → is_some result ≡ true }
     ensures left { result ≡ None → units_of hart.new ≡ units_of hart.old }
     ensures holds { Holds hart.old hart.new }
-    ensures refines { IfSome result (λ x. Refines hart.old hart.new x
+    ensures refines { IfSome result (λ x. RefinesExecution hart.old hart.new x
         (trapped at.pc (own_of hart.old) at.word cause)) }
     ensures frequent { RARE ≡ false → result ≡ None }
     ensures pc { IfSome result (λ x. x.pc % 4 ≡ 0) }
@@ -183,7 +183,7 @@ pub fn branch_on(at: PcWord, i: &Ins, taken: bool, target: u32) -> ExecResult
 #[inline(always)]
 pub fn return_from_trap(hart: &Hart<'_>, at: PcWord, i: &Ins) -> ExecResult
     requires { lag i.now false false ≡ redirect_lag }
-    ensures refines { Refines hart.now hart.now result (go_to (own_of hart.now) at.word
+    ensures refines { RefinesExecution hart.now hart.now result (go_to (own_of hart.now) at.word
         (own_of hart.now).trap.mepc Nothing) }
     ensures pc { result.pc % 4 ≡ 0 }
     ensures printable { IsPrintableEffect result.effect }
