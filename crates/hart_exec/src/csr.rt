@@ -3,7 +3,7 @@
 ghost use Rattle.std.specs.Prelude.{◌≡◌, ◌<◌, ◌%◌, false};
 ghost use Rattle.rv_decode.specs.Lag.{lag, redirect_lag};
 ghost use Rattle.core_model.specs.Csr.{csr_access};
-ghost use Rattle.hart_exec.specs.Effects.{IsPrintableEffect, IsAlignedStore};
+ghost use Rattle.hart_exec.specs.Results.{IsPlain};
 ghost use Rattle.hart_exec.specs.Units.{Holds, RefinesExecution, environment_of, own_of};
 
 use crate::hart::Hart;
@@ -67,11 +67,7 @@ pub fn access_csr(
     ensures refines { RefinesExecution hart.old hart.new result (csr_access hart.old.thread at.pc
         (own_of hart.old) at.word rd csr wanted.op wanted.operand wanted.writes
         ((environment_of hart.old).shared csr)) }
-    ensures pc { result.pc % 4 ≡ 0 }
-    ensures printable { IsPrintableEffect result.effect }
-    ensures store { IsAlignedStore result.effect }
-    ensures word { result.word ≡ at.word }
-    ensures address { result.address ≡ 0 }
+    ensures plain { IsPlain at.word result }
 {
     let answer = hart.traps.access(
         hart.sched,

@@ -8,8 +8,8 @@ ghost use Rattle.core_model.specs.Issue.{execute_untrapped, run_at, execute_in};
 ghost use Rattle.core_model.specs.Waiting.{with_armed};
 ghost use Rattle.core_model.specs.Traps.{trapped};
 ghost use Rattle.rv_exec.specs.TrapCauses.{cause_expiry};
-ghost use Rattle.hart_exec.specs.Effects.{IsPrintableEffect, IsAlignedStore, HasWord, HasTarget};
-ghost use Rattle.hart_exec.specs.Effects.{is_rare, is_frequent};
+ghost use Rattle.hart_exec.specs.Effects.{HasWord, HasTarget, is_rare, is_frequent};
+ghost use Rattle.hart_exec.specs.Results.{IsPlain, IsWellFormed};
 ghost use Rattle.hart_exec.specs.Units.{Holds, RefinesExecution, environment_of, own_of, units_of};
 
 use crate::csr::{Access, access_csr};
@@ -62,9 +62,7 @@ fn execute_untrapped<const RARE: bool>(
         (environment_of hart.old) at.pc (own_of hart.old) at.word s.a s.b o.now i.now)) }
     ensures frequent { RARE ≡ false → is_some result ≡ is_frequent i.now (execute_untrapped
         (environment_of hart.old) at.pc (own_of hart.old) at.word s.a s.b o.now i.now) }
-    ensures pc { IfSome result (λ x. x.pc % 4 ≡ 0) }
-    ensures printable { IfSome result (λ x. IsPrintableEffect x.effect) }
-    ensures store { IfSome result (λ x. IsAlignedStore x.effect) }
+    ensures fits { IfSome result (λ x. IsWellFormed x) }
     ensures word { IfSome result (λ x. x.word ≡ at.word) }
     ensures address { IfSome result (λ x. IsAligned i.now x.address) }
 {
@@ -118,9 +116,7 @@ fn run_at<const RARE: bool>(
         (own_of hart.old) at.word s.a s.b i.now)) }
     ensures frequent { RARE ≡ false → is_some result ≡ is_frequent i.now (run_at
         (environment_of hart.old) at.pc (own_of hart.old) at.word s.a s.b i.now) }
-    ensures pc { IfSome result (λ x. x.pc % 4 ≡ 0) }
-    ensures printable { IfSome result (λ x. IsPrintableEffect x.effect) }
-    ensures store { IfSome result (λ x. IsAlignedStore x.effect) }
+    ensures fits { IfSome result (λ x. IsWellFormed x) }
     ensures word { IfSome result (λ x. x.word ≡ at.word) }
     ensures address { IfSome result (λ x. IsAligned i.now x.address) }
 {
@@ -138,12 +134,8 @@ fn expire(hart: &mut Hart<'_>, at: PcWord) -> ExecResult
     ensures holds { Holds hart.old hart.new }
     ensures refines { RefinesExecution hart.old hart.new result (trapped at.pc
         (with_armed (own_of hart.old) None) 0 cause_expiry) }
-    ensures pc { result.pc % 4 ≡ 0 }
-    ensures printable { IsPrintableEffect result.effect }
-    ensures store { IsAlignedStore result.effect }
+    ensures plain { IsPlain 0 result }
     ensures shown { HasWord result.effect result.word }
-    ensures word { result.word ≡ 0 }
-    ensures address { result.address ≡ 0 }
 {
     hart.timers.disarm(hart.thread);
     trap(hart, PcWord { word: 0, ..at }, cause::EXPIRY)
@@ -172,9 +164,7 @@ fn execute_some<const RARE: bool, LOOP>(
     ensures frequent { RARE ≡ false → is_some result ≡
         is_frequent (ins at.word) (execute_in
         (environment_of hart.old) at.pc (own_of hart.old) expired at.word s.a s.b) }
-    ensures pc { IfSome result (λ x. x.pc % 4 ≡ 0) }
-    ensures printable { IfSome result (λ x. IsPrintableEffect x.effect) }
-    ensures store { IfSome result (λ x. IsAlignedStore x.effect) }
+    ensures fits { IfSome result (λ x. IsWellFormed x) }
     ensures shown { IfSome result (λ x. HasWord x.effect x.word) }
     ensures address { IfSome result (λ x. IsAligned (ins x.word) x.address) }
 {
@@ -208,9 +198,7 @@ pub fn execute_frequent<LOOP>(
     ensures frequent { is_some result ≡
         is_frequent (ins at.word) (execute_in
         (environment_of hart.old) at.pc (own_of hart.old) expired at.word s.a s.b) }
-    ensures pc { IfSome result (λ x. x.pc % 4 ≡ 0) }
-    ensures printable { IfSome result (λ x. IsPrintableEffect x.effect) }
-    ensures store { IfSome result (λ x. IsAlignedStore x.effect) }
+    ensures fits { IfSome result (λ x. IsWellFormed x) }
     ensures shown { IfSome result (λ x. HasWord x.effect x.word) }
     ensures address { IfSome result (λ x. IsAligned (ins x.word) x.address) }
 {
@@ -227,9 +215,7 @@ pub fn execute_in<LOOP>(hart: &mut Hart<'_>, at: PcWord, expired: bool, s: Sourc
     ensures holds { Holds hart.old hart.new }
     ensures refines { RefinesExecution hart.old hart.new result (execute_in
         (environment_of hart.old) at.pc (own_of hart.old) expired at.word s.a s.b) }
-    ensures pc { result.pc % 4 ≡ 0 }
-    ensures printable { IsPrintableEffect result.effect }
-    ensures store { IsAlignedStore result.effect }
+    ensures fits { IsWellFormed result }
     ensures shown { HasWord result.effect result.word }
     ensures address { IsAligned (ins result.word) result.address }
 {

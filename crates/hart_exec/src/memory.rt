@@ -4,7 +4,7 @@ ghost use Rattle.std.specs.Prelude.{◌≡◌, ◌<◌, ◌%◌, ◌^◌, IfSome
 ghost use Rattle.rv_decode.specs.Lag.{lag, late_lag, plain_lag};
 ghost use Rattle.rv_exec.specs.Access.{load_size, store_size};
 ghost use Rattle.core_model.specs.Outcomes.{load, store};
-ghost use Rattle.hart_exec.specs.Effects.{IsPrintableEffect, IsAlignedStore};
+ghost use Rattle.hart_exec.specs.Results.{IsWellFormed};
 ghost use Rattle.hart_exec.specs.Units.{Holds, RefinesExecution, environment_of, own_of, units_of};
 
 use crate::hart::Hart;
@@ -46,9 +46,7 @@ pub fn load<const RARE: bool>(
         ((environment_of hart.old).load address (load_size op)))) }
     ensures frequent { RARE ≡ false → is_some result
         ≡ (environment_of hart.old).load address (load_size op) }
-    ensures pc { IfSome result (λ x. x.pc % 4 ≡ 0) }
-    ensures printable { IfSome result (λ x. IsPrintableEffect x.effect) }
-    ensures store { IfSome result (λ x. IsAlignedStore x.effect) }
+    ensures fits { IfSome result (λ x. IsWellFormed x) }
     ensures word { IfSome result (λ x. x.word ≡ at.word) }
     ensures address { IfSome result (λ x. x.address % load_size op ≡ 0) }
 {
@@ -86,9 +84,7 @@ pub fn store<const RARE: bool>(
         ((environment_of hart.old).store address (store_size op)))) }
     ensures frequent { RARE ≡ false → is_some result
         ≡ (environment_of hart.old).store address (store_size op) }
-    ensures pc { IfSome result (λ x. x.pc % 4 ≡ 0) }
-    ensures printable { IfSome result (λ x. IsPrintableEffect x.effect) }
-    ensures store { IfSome result (λ x. IsAlignedStore x.effect) }
+    ensures fits { IfSome result (λ x. IsWellFormed x) }
     ensures word { IfSome result (λ x. x.word ≡ at.word) }
     ensures address { IfSome result (λ x. x.address % store_size op ≡ 0) }
 {
