@@ -14,8 +14,8 @@ use Rattle.core_model.specs.Thread.{Environment, Execution, no_own}
 use Rattle.core_model.specs.Issue.{execute_in}
 use Rattle.core_model.specs.World.{registers_after}
 use Rattle.hart_exec.specs.declared.hart.Hart.{Hart}
-use Rattle.hart_exec.specs.declared.outcome.ExecResult.{ExecResult}
-use Rattle.hart_exec.specs.Units.{Refines, Units, environment_of, abstract_result}
+use Rattle.hart_exec.specs.declared.result.ExecResult.{ExecResult}
+use Rattle.hart_exec.specs.Units.{RefinesExecution, Units, environment_of, abstract_result}
 use Rattle.hart_exec.specs.Units.{guard_by, own_of, sched_by, units_after, units_of}
 use Rattle.pipe_model.specs.declared.stage_registers.Decoded.{Decoded}
 use Rattle.pipe_model.specs.declared.stage_registers.Held.TheVariants.{Issue}
@@ -76,7 +76,8 @@ controls k d u = λ j. record {
 -- an executed instruction leaves the state that the execute stage defines
 pub issue_after : (h g : Hart) (done : ExecResult) (x : Decoded) (a : Environment) →
     environment_of h ≡ a →
-    Refines h g done (execute_in (environment_of h) x.pc (own_of h) x.expired x.word x.a x.b) →
+    RefinesExecution h g done
+    (execute_in (environment_of h) x.pc (own_of h) x.expired x.word x.a x.b) →
     let left : After = record {
       e = Issue h.thread (executed_of x (abstract_result no_own done));
       control = control_of (units_of g);
@@ -114,6 +115,6 @@ guard-size (Some (Csr csr value rd old)) g = go (csr == 0x7C2) (csr == 0x7C3)
 guard-size (Some (Trap cause target)) g = refl
 guard-size (Some Wait) g = refl
 
-pub size_after : (h g : Hart) (done : ExecResult) (d : Execution) → Refines h g done d →
+pub size_after : (h g : Hart) (done : ExecResult) (d : Execution) → RefinesExecution h g done d →
     g.guard.now.size ≡ h.guard.now.size
 size_after h g done d r = ap (λ (u : Units). u.guard.size) r.units ∙ guard-size d.effect h.guard.now

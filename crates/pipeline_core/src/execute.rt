@@ -10,7 +10,7 @@ ghost use Rattle.rv_exec.specs.Access.{IsAligned};
 ghost use Rattle.timer_unit.specs.Time.{most_cycles};
 ghost use Rattle.fp_ports.specs.PluggedPorts.{Row};
 ghost use Rattle.hart_exec.specs.Effects.{HasWord, IsAlignedStore, IsPrintableEffect};
-ghost use Rattle.hart_exec.specs.Units.{Holds, Refines, abstract_result, environment_of};
+ghost use Rattle.hart_exec.specs.Units.{Holds, RefinesExecution, abstract_result, environment_of};
 ghost use Rattle.hart_exec.specs.Units.{own_of, units_of};
 ghost use Rattle.pipe_model.specs.Stages.{execute_stage, executed_of, redirect_of};
 ghost use Rattle.pipe_model.specs.declared.stage_registers.Held.TheVariants.{Issue};
@@ -148,7 +148,7 @@ fn execute_one<const RARE: bool, LOOP>(
     ensures all { RARE ≡ true → is_some result ≡ true }
     ensures left { result ≡ None → units_of hart.new ≡ units_of hart.old }
     ensures holds { Holds hart.old hart.new }
-    ensures refines { IfSome result (λ x. Refines hart.old hart.new x (execute_in
+    ensures refines { IfSome result (λ x. RefinesExecution hart.old hart.new x (execute_in
         (environment_of hart.old) at.pc
         (own_of hart.old) expired at.word s.a s.b)) }
     ensures pc { IfSome result (λ x. x.pc % 4 ≡ 0) }

@@ -8,11 +8,12 @@ ghost use Rattle.core_model.specs.Traps.{trapped};
 ghost use Rattle.core_model.specs.Outcomes.{plus, advance, write, go_to, branch};
 ghost use Rattle.rv_exec.specs.Line.{IsPrintable};
 ghost use Rattle.rv_exec.specs.declared.outcome.Effect.TheVariants.{Nothing};
-ghost use Rattle.hart_exec.specs.Effects.{IsPrintableEffect, IsAlignedStore, HasWord};
-ghost use Rattle.hart_exec.specs.Units.{Holds, Refines, RefinesInPlace, own_of, units_of};
+ghost use Rattle.hart_exec.specs.Effects.{HasWord};
+ghost use Rattle.hart_exec.specs.Results.{IsPlain};
+ghost use Rattle.hart_exec.specs.Units.{Holds, RefinesExecution, RefinesInPlace, own_of, units_of};
 
 use crate::hart::Hart;
-use crate::outcome::{ExecResult, PcWord};
+use crate::result::{ExecResult, PcWord};
 use rv_decode::{Ins, REDIRECT_LAG, lag_of};
 use rv_exec::Effect;
 
@@ -55,14 +56,10 @@ pub fn advance(at: PcWord, lag: u64, effect: Effect) -> ExecResult
 pub fn trap(hart: &mut Hart<'_>, at: PcWord, cause: u8) -> ExecResult
     requires { at.pc % 4 ≡ 0 }
     ensures holds { Holds hart.old hart.new }
-    ensures refines { Refines hart.old hart.new result (trapped at.pc (own_of hart.old) at.word
-        cause) }
-    ensures pc { result.pc % 4 ≡ 0 }
-    ensures printable { IsPrintableEffect result.effect }
-    ensures store { IsAlignedStore result.effect }
+    ensures refines { RefinesExecution hart.old hart.new result
+        (trapped at.pc (own_of hart.old) at.word cause) }
+    ensures plain { IsPlain at.word result }
     ensures shown { HasWord result.effect result.word }
-    ensures word { result.word ≡ at.word }
-    ensures address { result.address ≡ 0 }
 {
     let target = hart.traps.enter(hart.thread, cause, at.pc);
     ExecResult {
@@ -85,15 +82,11 @@ pub fn trap_if_rare<const RARE: bool>(
     ensures all { RARE ≡ true → is_some result ≡ true }
     ensures left { result ≡ None → units_of hart.new ≡ units_of hart.old }
     ensures holds { Holds hart.old hart.new }
-    ensures refines { IfSome result (λ x. Refines hart.old hart.new x
+    ensures refines { IfSome result (λ x. RefinesExecution hart.old hart.new x
         (trapped at.pc (own_of hart.old) at.word cause)) }
     ensures frequent { RARE ≡ false → result ≡ None }
-    ensures pc { IfSome result (λ x. x.pc % 4 ≡ 0) }
-    ensures printable { IfSome result (λ x. IsPrintableEffect x.effect) }
-    ensures store { IfSome result (λ x. IsAlignedStore x.effect) }
+    ensures plain { IfSome result (λ x. IsPlain at.word x) }
     ensures shown { IfSome result (λ x. HasWord x.effect x.word) }
-    ensures word { IfSome result (λ x. x.word ≡ at.word) }
-    ensures address { IfSome result (λ x. x.address ≡ 0) }
 {
     if RARE {
         Some(trap(hart, at, cause))
@@ -108,11 +101,7 @@ pub fn pass(at: PcWord, i: &Ins) -> ExecResult
     requires { at.pc % 4 ≡ 0 }
     ensures refines { RefinesInPlace result (λ own. advance at.pc own at.word
         (lag i.now false false) Nothing) }
-    ensures pc { result.pc % 4 ≡ 0 }
-    ensures printable { IsPrintableEffect result.effect }
-    ensures store { IsAlignedStore result.effect }
-    ensures word { result.word ≡ at.word }
-    ensures address { result.address ≡ 0 }
+    ensures plain { IsPlain at.word result }
 {
     advance(at, lag_of(i, false, false), Effect::Nothing)
 }
@@ -124,11 +113,7 @@ pub fn write(at: PcWord, i: &Ins, rd: u8, value: u32) -> ExecResult
     requires pc { at.pc % 4 ≡ 0 }
     ensures refines { RefinesInPlace result (λ own. write at.pc own at.word
         (lag i.now false false) rd value) }
-    ensures pc { result.pc % 4 ≡ 0 }
-    ensures printable { IsPrintableEffect result.effect }
-    ensures store { IsAlignedStore result.effect }
-    ensures word { result.word ≡ at.word }
-    ensures address { result.address ≡ 0 }
+    ensures plain { IsPlain at.word result }
 {
     advance(at, lag_of(i, false, false), write_to(rd, value))
 }
@@ -141,11 +126,7 @@ pub fn jump(at: PcWord, i: &Ins, target: u32, rd: u8, value: u32) -> ExecResult
     requires lag { lag i.now false false ≡ redirect_lag }
     ensures refines { RefinesInPlace result (λ own. go_to own at.word target
         (reg_effect rd value)) }
-    ensures pc { result.pc % 4 ≡ 0 }
-    ensures printable { IsPrintableEffect result.effect }
-    ensures store { IsAlignedStore result.effect }
-    ensures word { result.word ≡ at.word }
-    ensures address { result.address ≡ 0 }
+    ensures plain { IsPlain at.word result }
 {
     ExecResult {
         pc: target,
@@ -164,11 +145,7 @@ pub fn branch_on(at: PcWord, i: &Ins, taken: bool, target: u32) -> ExecResult
     requires target { taken ≡ true → target % 4 ≡ 0 }
     requires lag { lag i.now taken false ≡ (if taken then redirect_lag else plain_lag) }
     ensures refines { RefinesInPlace result (λ own. branch at.pc own at.word taken target) }
-    ensures pc { result.pc % 4 ≡ 0 }
-    ensures printable { IsPrintableEffect result.effect }
-    ensures store { IsAlignedStore result.effect }
-    ensures word { result.word ≡ at.word }
-    ensures address { result.address ≡ 0 }
+    ensures plain { IsPlain at.word result }
 {
     ExecResult {
         pc: if taken { target } else { at.pc.wrapping_add(4) },
@@ -183,13 +160,9 @@ pub fn branch_on(at: PcWord, i: &Ins, taken: bool, target: u32) -> ExecResult
 #[inline(always)]
 pub fn return_from_trap(hart: &Hart<'_>, at: PcWord, i: &Ins) -> ExecResult
     requires { lag i.now false false ≡ redirect_lag }
-    ensures refines { Refines hart.now hart.now result (go_to (own_of hart.now) at.word
+    ensures refines { RefinesExecution hart.now hart.now result (go_to (own_of hart.now) at.word
         (own_of hart.now).trap.mepc Nothing) }
-    ensures pc { result.pc % 4 ≡ 0 }
-    ensures printable { IsPrintableEffect result.effect }
-    ensures store { IsAlignedStore result.effect }
-    ensures word { result.word ≡ at.word }
-    ensures address { result.address ≡ 0 }
+    ensures plain { IsPlain at.word result }
 {
     ExecResult {
         pc: hart.traps.leave(hart.thread),
