@@ -63,7 +63,7 @@ RULES: Sequence[tuple[Part, str]] = (
     (Part.RARE, r'^pipeline_core::execute::execute_(rare|out_of_line)|^hart_exec::(csr::|execute::execute_some::<=1)'),
     (Part.DECODING, r'^rv_decode::'),
     (Part.GUARD, r'::may_(fetch|load|store)'),
-    (Part.LEAVE, r'^pipeline_core::execute::(leave|put_executed|flush_of)'),
+    (Part.LEAVE, r'^pipeline_core::execute::(put_result|put_executed|flush_of)'),
     (Part.EXECUTE, r'^(pipeline_core::execute|hart_exec)::'),
     (Part.FETCH, r'^pipeline_core::fetch::'),
     (Part.PICK, r'^slot_scheduler::picking::|::Clock::now'),
