@@ -14,7 +14,7 @@ use Rattle.pipe_model.specs.declared.stage_registers.Written.{Written}
 use Rattle.pipe_model.specs.Stages.{StageRegisters}
 use Rattle.pipeline_core.specs.declared.stages.Stages.{Stages}
 use Rattle.pipeline_core.specs.Abstraction.{abstract_stages, registers_in}
-use Rattle.machine.specs.declared.run.Leaving.{Leaving}
+use Rattle.machine.specs.declared.leaving.Leaving.{Leaving}
 use Rattle.machine.specs.declared.run.Run.{Run}
 use Rattle.machine.specs.declared.state.Machine.{Machine}
 use Rattle.machine.specs.Observing.{Acts, HasSeen, SawInPart, next_with, puts_with, retires}

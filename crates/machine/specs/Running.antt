@@ -11,7 +11,7 @@ use Rattle.pipeline_core.specs.declared.stages.Stages.{Stages}
 use Rattle.pipeline_core.specs.Abstraction.{registers_in}
 use Rattle.machine.specs.declared.state.Machine.{Machine}
 use Rattle.machine.specs.declared.run.Run.{Run}
-use Rattle.machine.specs.declared.run.Leaving.{Leaving}
+use Rattle.machine.specs.declared.leaving.Leaving.{Leaving}
 use Rattle.machine.specs.Observing.{Acts, HasSeen, SawInPart, next_with, puts_with, retires}
 use Rattle.machine.specs.WorldRelation.{RefinesWith}
 

@@ -22,17 +22,14 @@ ghost use Rattle.machine.specs.Running.{turn_of};
 ghost use Rattle.machine.specs.Sleeping.{PassedOverWith};
 ghost use Rattle.machine.specs.WorldRelation.{AreLeft, Refines, RefinesWith, Ticks, TicksWith};
 
+use crate::leaving::Leaving;
 use crate::observer::Observer;
 use crate::state::Machine;
-use crate::unseen::{Nowhere, Unseen};
 use fp_io::{PutFailed, Sink};
 use fp_ports::Ports;
 use pipe_model::{Held, Written};
 use pipeline_core::Stages;
 use rv_exec::Event;
-
-/// The loop of the last cycle of a run.
-pub(crate) struct Last;
 
 /// A machine that runs, with its stage registers as the stages use them. The machine's own `pipe`
 /// is that of an earlier cycle meanwhile. A run isn't `Drop`: only `finish` ends it, which gives
@@ -42,29 +39,6 @@ pub(crate) struct Run<'a> {
     stages: &'a mut Stages,
     /// The result of [`loses_ports`](Machine::loses_ports), which is the same in all cycles.
     loses_ports: bool,
-}
-
-/// An issue that leaves M: the turn in `w` after its cycle.
-#[derive(Clone, Copy, Drop)]
-pub(crate) struct Leaving {
-    thread: u8,
-    pc: u32,
-    word: u32,
-}
-
-impl Leaving {
-    /// Its turn.
-    fn held(self) -> Held<Written>
-        ensures { result ≡ turn_of self }
-    {
-        Held::Issue {
-            thread: self.thread,
-            what: Written {
-                pc: self.pc,
-                word: self.word,
-            },
-        }
-    }
 }
 
 impl Run<'_> {
@@ -340,74 +314,6 @@ impl Run<'_> {
 }
 
 impl Machine {
-    /// Does one cycle with these stage registers, as [`Run::tick`] does. A loop over cycles calls
-    /// it by a `Run`. It takes the parts of the run, so that a run stays in registers.
-    fn do_cycle<LOOP>(&mut self, stages: &mut Stages, ports: &mut Ports, loses_ports: bool)
-        requires cycle { self.old.at < most_cycles }
-        requires eight { vec_len ports.old ≡ 8 }
-        requires known { loses_ports ≡ list_any is_some self.old.unplugs }
-        ensures relation { (s : Start) (n : ℕ) (w : Held Written)
-            → self.old.at < n + cycles_to_m
-            → RefinesWith s self.old.at n (registers_in stages.old w) self.old
-            (rows_of latched word_at ports.old.items)
-            → TicksWith s self.old.at n (rows_of latched word_at ports.old.items)
-            (registers_in stages.new (writeback_stage (held stages.old.m))) self.new
-            (rows_of latched word_at ports.new.items)
-            (retired_event (self.old.at - cycles_to_w) (held stages.old.m)) }
-        ensures at { self.new.at ≡ self.old.at + 1 }
-        ensures unplugs { self.new.unplugs ≡ self.old.unplugs }
-        ensures words { AreLeft (rows_of latched word_at ports.old.items)
-            (rows_of latched word_at ports.new.items) }
-        ensures eight { vec_len ports.new ≡ 8 }
-    {
-        self.take_if_any(ports, loses_ports);
-        stages.tick::<LOOP>(&mut self.units, ports, self.at);
-        self.at += 1;
-    }
-
-    /// Does the last cycle of a run, as [`Run::last`] does. It isn't inlined: a run calls it once,
-    /// and the loop over the other cycles has a copy of the stages.
-    #[inline(never)]
-    fn do_last_cycle(
-        &mut self,
-        stages: &mut Stages,
-        ports: &mut Ports,
-        loses_ports: bool,
-    ) -> Held<Written>
-        requires cycle { self.old.at < most_cycles }
-        requires eight { vec_len ports.old ≡ 8 }
-        requires known { loses_ports ≡ list_any is_some self.old.unplugs }
-        ensures relation { (s : Start) (n : ℕ) (w : Held Written)
-            → self.old.at < n + cycles_to_m
-            → RefinesWith s self.old.at n (registers_in stages.old w) self.old
-            (rows_of latched word_at ports.old.items)
-            → TicksWith s self.old.at n (rows_of latched word_at ports.old.items)
-            (registers_in stages.new result) self.new (rows_of latched word_at ports.new.items)
-            (retired_event (self.old.at - cycles_to_w) (held stages.old.m)) }
-        ensures fits { WrittenFits result }
-        ensures at { self.new.at ≡ self.old.at + 1 }
-        ensures unplugs { self.new.unplugs ≡ self.old.unplugs }
-        ensures words { AreLeft (rows_of latched word_at ports.old.items)
-            (rows_of latched word_at ports.new.items) }
-        ensures eight { vec_len ports.new ≡ 8 }
-    {
-        let w = stages.written();
-        self.do_cycle::<Last>(stages, ports, loses_ports);
-        w
-    }
-
-    /// Puts the stage registers of `stages` into the machine, with this turn in `w`. It isn't
-    /// inlined, so that a loop over lines doesn't touch the memory of its temporary values.
-    #[cold]
-    #[inline(never)]
-    fn take_stages(&mut self, stages: &Stages, w: Held<Written>)
-        requires { WrittenFits w }
-        ensures stages { abstract_stages self.new.pipe ≡ registers_in stages.now w }
-        ensures same { self.new ≡ record self.old { pipe = self.new.pipe } }
-    {
-        self.pipe = stages.pipe(w);
-    }
-
     /// Does one cycle, a run of its own. Returns the event of the issue of four cycles ago, or None
     /// if there is no such issue or event. A thread that is unplugged in cycle u loses its port at
     /// the start of cycle u + 3. In that cycle its issue of cycle u reaches the port.
@@ -504,21 +410,5 @@ impl Machine {
             return observer.write(out);
         }
         Ok(())
-    }
-
-    /// Does the cycles before `end`, and puts nothing.
-    pub fn run_unseen(&mut self, end: u64, ports: &mut Ports)
-        requires begun { self.old.at ≤ end }
-        requires limit { end ≤ most_cycles }
-        requires eight { vec_len ports.old ≡ 8 }
-        ensures relation { (s : Start) (n : ℕ) → end ≤ n + cycles_to_m
-            → Refines s self.old.at n self.old (rows_of latched word_at ports.old.items)
-            → Refines s end n self.new (rows_of latched word_at ports.new.items) }
-        ensures at { self.new.at ≡ end }
-        ensures words { AreLeft (rows_of latched word_at ports.old.items)
-            (rows_of latched word_at ports.new.items) }
-        ensures eight { vec_len ports.new ≡ 8 }
-    {
-        let _done = self.run_with(end, ports, &mut Unseen, &mut Nowhere);
     }
 }

@@ -10,7 +10,7 @@ use Rattle.pipe_model.specs.declared.stage_registers.Written.{Written}
 use Rattle.pipe_model.specs.Stages.{retired_event, writeback_stage}
 use Rattle.pipeline_core.specs.Abstraction.{registers_in}
 use Rattle.pipeline_core.specs.Turns.{held}
-use Rattle.machine.specs.declared.run.Leaving.{Leaving}
+use Rattle.machine.specs.declared.leaving.Leaving.{Leaving}
 use Rattle.machine.specs.declared.state.Machine.{Machine}
 use Rattle.machine.specs.Running.{turn_of}
 use Rattle.machine.proofs.RunLemmas.{left_all}

@@ -1,5 +1,5 @@
 use Rattle.pipeline_core.proofs.Turns.{passes}
-use Rattle.pipeline_core.proofs.stage_register.StageRegister.pass.Goals as goal
+use Rattle.pipeline_core.proofs.stage_register.StageRegister.take_turn.Goals as goal
 
 pub returns : goal.returns
 returns g c =
