@@ -1,18 +1,14 @@
-//! A cycle of a machine with its stage registers beside it, as a run has them.
+//! A cycle of a machine, with the stage registers as the stages use them.
 
-ghost use Rattle.std.specs.Prelude.{◌≡◌, ℕ, ◌+◌, ◌-◌, ◌<◌, is_some, vec_len};
+ghost use Rattle.std.specs.Prelude.{◌≡◌, ◌<◌, is_some, vec_len};
 ghost use Rattle.std.specs.List.{list_any};
 ghost use Rattle.timer_unit.specs.Time.{most_cycles};
 ghost use Rattle.fp_ports.specs.PluggedPorts.{rows_of};
-ghost use Rattle.core_model.specs.Cycles.{cycles_to_m, cycles_to_w};
-ghost use Rattle.core_model.specs.World.{Start};
-ghost use Rattle.pipe_model.specs.declared.stage_registers.Held.{Held};
-ghost use Rattle.pipe_model.specs.declared.stage_registers.Written.{Written};
-ghost use Rattle.pipe_model.specs.Stages.{retired_event, writeback_stage};
+ghost use Rattle.pipe_model.specs.Stages.{writeback_stage};
 ghost use Rattle.pipeline_core.specs.Abstraction.{abstract_stages, registers_in};
 ghost use Rattle.pipeline_core.specs.Turns.{held};
 ghost use Rattle.pipeline_core.specs.StageFacts.{WrittenFits};
-ghost use Rattle.machine.specs.WorldRelation.{AreLeft, RefinesWith, TicksWith};
+ghost use Rattle.machine.specs.OneCycle.{DoesCycle};
 
 use crate::state::Machine;
 use fp_ports::Ports;
@@ -23,8 +19,9 @@ use pipeline_core::Stages;
 pub(crate) struct Last;
 
 impl Machine {
-    /// Does one cycle with these stage registers, as [`Run::tick`](crate::run::Run::tick) does. A loop over cycles calls it
-    /// by a `Run`. It takes the parts of the run, so that a run stays in registers.
+    /// Does one cycle with these stage registers, as [`Run::tick`](crate::run::Run::tick) does. A
+    /// loop over cycles calls it by a `Run`. It takes the run's parts one by one, so that a run
+    /// stays in registers.
     pub(crate) fn do_cycle<LOOP>(
         &mut self,
         stages: &mut Stages,
@@ -34,17 +31,8 @@ impl Machine {
         requires cycle { self.old.at < most_cycles }
         requires eight { vec_len ports.old ≡ 8 }
         requires known { loses_ports ≡ list_any is_some self.old.unplugs }
-        ensures relation { (s : Start) (n : ℕ) (w : Held Written)
-            → self.old.at < n + cycles_to_m
-            → RefinesWith s self.old.at n (registers_in stages.old w) self.old
-            (rows_of latched word_at ports.old.items)
-            → TicksWith s self.old.at n (rows_of latched word_at ports.old.items)
-            (registers_in stages.new (writeback_stage (held stages.old.m))) self.new
-            (rows_of latched word_at ports.new.items)
-            (retired_event (self.old.at - cycles_to_w) (held stages.old.m)) }
-        ensures at { self.new.at ≡ self.old.at + 1 }
-        ensures unplugs { self.new.unplugs ≡ self.old.unplugs }
-        ensures words { AreLeft (rows_of latched word_at ports.old.items)
+        ensures cycle { DoesCycle stages.old self.old (rows_of latched word_at ports.old.items)
+            stages.new (writeback_stage (held stages.old.m)) self.new
             (rows_of latched word_at ports.new.items) }
         ensures eight { vec_len ports.new ≡ 8 }
     {
@@ -53,8 +41,8 @@ impl Machine {
         self.at += 1;
     }
 
-    /// Does the last cycle of a run, as [`Run::last`](crate::run::Run::last) does. It isn't inlined: a run calls it once,
-    /// and the loop over the other cycles has a copy of the stages.
+    /// Does the last cycle of a run, as [`Run::last`](crate::run::Run::last) does. It isn't
+    /// inlined: a run calls it once, and the loop over the other cycles has a copy of the stages.
     #[inline(never)]
     pub(crate) fn do_last_cycle(
         &mut self,
@@ -65,18 +53,9 @@ impl Machine {
         requires cycle { self.old.at < most_cycles }
         requires eight { vec_len ports.old ≡ 8 }
         requires known { loses_ports ≡ list_any is_some self.old.unplugs }
-        ensures relation { (s : Start) (n : ℕ) (w : Held Written)
-            → self.old.at < n + cycles_to_m
-            → RefinesWith s self.old.at n (registers_in stages.old w) self.old
-            (rows_of latched word_at ports.old.items)
-            → TicksWith s self.old.at n (rows_of latched word_at ports.old.items)
-            (registers_in stages.new result) self.new (rows_of latched word_at ports.new.items)
-            (retired_event (self.old.at - cycles_to_w) (held stages.old.m)) }
+        ensures cycle { DoesCycle stages.old self.old (rows_of latched word_at ports.old.items)
+            stages.new result self.new (rows_of latched word_at ports.new.items) }
         ensures fits { WrittenFits result }
-        ensures at { self.new.at ≡ self.old.at + 1 }
-        ensures unplugs { self.new.unplugs ≡ self.old.unplugs }
-        ensures words { AreLeft (rows_of latched word_at ports.old.items)
-            (rows_of latched word_at ports.new.items) }
         ensures eight { vec_len ports.new ≡ 8 }
     {
         let w = stages.written();
