@@ -270,8 +270,8 @@ call_visits_in_settings x slots thread b s n is ok most host last before here v 
     (last ∷ (before ++ v.earlier)) links) here v.starts v.goes_on comes keeps
     (lies-or (part x (part_in x (open_at x before))) last.pc)
 
-pub words-of : (s : Start) (x : Calls) (slots thread : ℕ) → IsListing x → HostsCalls s x slots thread →
-    HasWordsOfParts s x
+pub words-of : (s : Start) (x : Calls) (slots thread : ℕ) → IsListing x →
+    HostsCalls s x slots thread → HasWordsOfParts s x
 words-of s x slots thread is h = record {
   eight = h.eight;
   same_words = λ u m lt. h.same_words u (part-aligned x m.within u is m.reached m.word) m lt;

@@ -30,7 +30,7 @@ call_visits_in_settings law x slots i b m n is ok most rules h last before here 
     law x slots i b (start m.setup m.image m.ports n) n is ok most
     (alike-call-words x m n is rules h) last before here v comes keeps
 
-pub alike-parts : (x : Calls) (m : Machine) (i slots : ℕ) → IsListing x → IsAlikeInParts m i slots x →
-    HasSameWordsOfParts m x
+pub alike-parts : (x : Calls) (m : Machine) (i slots : ℕ) → IsListing x →
+    IsAlikeInParts m i slots x → HasSameWordsOfParts m x
 alike-parts x m i slots is h u met =
     h.same_words u (part-aligned x met.within u is met.reached met.word) met

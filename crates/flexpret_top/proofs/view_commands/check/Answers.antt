@@ -1,7 +1,7 @@
 use Rattle.std.proofs.Common.{rules}
 use Rattle.flexpret_top.proofs.AloneCommands.{check-differs, check-same, same-prepares}
 use Rattle.flexpret_top.proofs.Requesting.{trace-asked}
-use Rattle.flexpret_top.proofs.prepare.check.Goals as goal
+use Rattle.flexpret_top.proofs.view_commands.check.Goals as goal
 
 pub returns-in-Ok-compare_alone : goal.returns-in-Ok-compare_alone
 returns-in-Ok-compare_alone g c =

@@ -1,6 +1,6 @@
 use Rattle.std.proofs.Common.{rules}
 use Rattle.flexpret_top.proofs.Preparing.{dump-prepares}
-use Rattle.flexpret_top.proofs.prepare.dump.Goals as goal
+use Rattle.flexpret_top.proofs.machine_commands.dump.Goals as goal
 
 pub returns : goal.returns
 returns g c = search (

@@ -1,5 +1,5 @@
 use Rattle.std.proofs.Common.{rules}
-use Rattle.flexpret_top.proofs.prepare.bound.Goals as goal
+use Rattle.flexpret_top.proofs.file_commands.bound.Goals as goal
 
 pub returns-in-Ok-section_bound : goal.returns-in-Ok-section_bound
 returns-in-Ok-section_bound g c = search rules

@@ -1,6 +1,6 @@
 use Rattle.std.proofs.Common.{rules}
 use Rattle.flexpret_top.proofs.Preparing.{phases-prepares}
-use Rattle.flexpret_top.proofs.prepare.phases.Goals as goal
+use Rattle.flexpret_top.proofs.machine_commands.phases.Goals as goal
 
 pub returns : goal.returns
 returns g c = search (

@@ -1,6 +1,6 @@
 use Rattle.std.proofs.Common.{rules}
 use Rattle.flexpret_top.proofs.Preparing.{trace-prepares}
-use Rattle.flexpret_top.proofs.prepare.trace.Goals as goal
+use Rattle.flexpret_top.proofs.machine_commands.trace.Goals as goal
 
 pub returns : goal.returns
 returns g c = search (

@@ -1,6 +1,6 @@
 use Rattle.std.proofs.Common.{ap, rules}
 use Rattle.flexpret_top.proofs.Requesting.{routines-asked}
-use Rattle.flexpret_top.proofs.prepare.calls.Goals as goal
+use Rattle.flexpret_top.proofs.file_commands.calls.Goals as goal
 
 pub returns-in-Ok-calls_bound : goal.returns-in-Ok-calls_bound
 returns-in-Ok-calls_bound g c =

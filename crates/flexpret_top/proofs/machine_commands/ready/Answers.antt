@@ -1,6 +1,6 @@
 use Rattle.std.proofs.Common.{rules, refl, sym, ◌∙◌}
 use Rattle.flexpret_top.proofs.Preparing.{fed-part, ready-beside, same-fed}
-use Rattle.flexpret_top.proofs.prepare.ready.Goals as goal
+use Rattle.flexpret_top.proofs.machine_commands.ready.Goals as goal
 
 pub returns-in-Ok-machine_beside-clause-ok : goal.returns-in-Ok-machine_beside-clause-ok
 returns-in-Ok-machine_beside-clause-ok g c =

@@ -1,5 +1,5 @@
 use Rattle.std.proofs.Common.{refl}
-use Rattle.flexpret_top.proofs.prepare.machine_beside.Goals as goal
+use Rattle.flexpret_top.proofs.machine_commands.machine_beside.Goals as goal
 
 -- nothing was fed
 pub returns-in-Err-clause-part : goal.returns-in-Err-clause-part

@@ -1,5 +1,5 @@
 use Rattle.flexpret_top.proofs.AloneCommands.{solo-prepares}
-use Rattle.flexpret_top.proofs.prepare.solo.Goals as goal
+use Rattle.flexpret_top.proofs.view_commands.solo.Goals as goal
 
 pub returns-in-Ok-clause-ok : goal.returns-in-Ok-clause-ok
 returns-in-Ok-clause-ok g c =
