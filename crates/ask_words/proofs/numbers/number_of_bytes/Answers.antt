@@ -1,7 +1,7 @@
 use Rattle.std.proofs.Common.{arith}
 use Rattle.std.proofs.lemmas.Grind.{common_steps}
 use Rattle.ask_words.specs.Numbers.{number_in}
-use Rattle.ask_words.proofs.numbers.number_of.Goals as goal
+use Rattle.ask_words.proofs.numbers.number_of_bytes.Goals as goal
 
 pub returns-in-Some-clause-value : goal.returns-in-Some-clause-value
 unfolding number_in

@@ -1,6 +1,6 @@
 use Rattle.std.proofs.Common.{arith}
 use Rattle.std.proofs.lemmas.Grind.{common_steps}
-use Rattle.ask_words.proofs.numbers.thread_of.Goals as goal
+use Rattle.ask_words.proofs.numbers.thread_of_bytes.Goals as goal
 
 pub returns-then-digits-ne1-clause-value : goal.returns-then-digits-ne1-clause-value
 returns-then-digits-ne1-clause-value c = grind (arith, common_steps)
