@@ -300,9 +300,6 @@ pub given_ticks : (s : Start) (c n : ℕ) (rows new : List (Option Row)) (event 
 given_ticks s c n rows new event a b ticked same =
     subst (λ (m : Machine). Ticks s c n rows m new event) (sym same) ticked
 
-pub given_at : (a b : Machine) (c : ℕ) → b.at ≡ c → a ≡ b → a.at ≡ c
-given_at a b c is same = ap (λ (m : Machine). m.at) same ∙ is
-
 pub given_seen : {O : Type 0} (acts : Acts O) (s : Start) (c n end : ℕ) (first o : O)
     (rows : List (Option Row)) (before now : Option (List ℕ)) (a b : Machine) →
     Refines s end n b rows × HasSeen acts s c end first o before now → a ≡ b →
