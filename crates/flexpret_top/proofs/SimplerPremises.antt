@@ -1,14 +1,12 @@
 -- The guarantees by simpler premises.
-use Rattle.std.proofs.Common.{ℕ, ◌+◌, ◌-◌, ◌<◌, ◌≤◌, ◌++◌, arith}
+use Rattle.std.proofs.Common.{◌+◌, ◌-◌, ◌<◌, ◌≤◌, ◌++◌, arith}
 use Rattle.call_bounds.specs.Listing.{calls}
-use Rattle.core_model.specs.Cycles.{cycles_to_e, cycles_to_w}
 use Rattle.core_model.specs.Phases.{leaves_regions}
 use Rattle.run_laws.proofs.Induction.{all_earlier, quiet_earlier}
 use Rattle.section_visits.specs.Premises.{AlikeHasSameWords, AlikeHasSameWordsOfParts}
 use Rattle.section_visits.specs.Premises.{IssuesAreEarlier, PhaseIsSet, QuietKeepsScheduling}
 use Rattle.section_visits.specs.Premises.{SetupIsSet}
 use Rattle.setup_model.specs.Start.{start}
-use Rattle.command_files.specs.BoundAnswer.{section_tree}
 use Rattle.command_files.specs.CallsAnswer.{section_listing}
 use Rattle.flexpret_top.specs.Corollaries.{LongestByCallsByPhases, LongestByPhases}
 use Rattle.flexpret_top.specs.Corollaries.{LongestByCallsWhileQuiet, LongestWhileQuiet}
