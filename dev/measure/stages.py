@@ -63,12 +63,12 @@ RULES: Sequence[tuple[Part, str]] = (
     (Part.RARE, r'^pipeline_core::execute::execute_(rare|out_of_line)|^hart_exec::(csr::|execute::execute_some::<=1)'),
     (Part.DECODING, r'^rv_decode::'),
     (Part.GUARD, r'::may_(fetch|load|store)'),
-    (Part.LEAVE, r'^pipeline_core::execute::(leave|put_executed|flush_of)'),
+    (Part.LEAVE, r'^pipeline_core::execute::(put_result|put_executed|flush_of)'),
     (Part.EXECUTE, r'^(pipeline_core::execute|hart_exec)::'),
     (Part.FETCH, r'^pipeline_core::fetch::'),
     (Part.PICK, r'^slot_scheduler::picking::|::Clock::now'),
     (Part.STEP, r'^pipeline_core::(pipe|retiring|stages|stage_register)::'),
-    (Part.LOOP, r'^machine::(state::Machine::(?!load|dump)|run::|sleeping::|thread_lines::|unseen::)'),
+    (Part.LOOP, r'^machine::(state::Machine::(?!load|dump)|leaving::|run::|sleeping::|thread_lines::|unseen::)'),
 )
 """The part of an instruction is that of the first rule whose pattern is in the name of a function around it. So a part stands
 before those that contain it. Const arguments are in the names: `::<=1` is a rare instruction's execution."""

@@ -7,11 +7,10 @@ ghost use Rattle.ask_words.specs.Numbers.{number_in, thread_in, address_in};
 ghost use Rattle.ask_words.specs.Numbers.{address_value, after_prefix};
 
 /// A thread: one digit 0 to 7.
-pub fn thread_of(word: &str) -> Option<u8>
-    ensures value { result ≡ thread_in word.now }
+pub fn thread_of_bytes(digits: &[u8]) -> Option<u8>
+    ensures value { result ≡ thread_in digits.now }
     ensures limit { IfSome result (λ i. i < 8) }
 {
-    let digits = word.as_bytes();
     if digits.len() != 1 {
         return None;
     }
@@ -19,6 +18,14 @@ pub fn thread_of(word: &str) -> Option<u8>
         digit @ b'0'..=b'7' => Some(digit - b'0'),
         _ => None,
     }
+}
+
+/// The thread of an argument.
+pub fn thread_of(word: &str) -> Option<u8>
+    ensures value { result ≡ thread_in word.now }
+    ensures limit { IfSome result (λ i. i < 8) }
+{
+    thread_of_bytes(word.as_bytes())
 }
 
 /// The decimal value of at most ten digits; None if a byte is no digit.
@@ -37,10 +44,9 @@ fn decimal_value(digits: &[u8]) -> Option<u64>
 }
 
 /// The value of one to ten decimal digits.
-fn decimal_of(word: &str) -> Option<u64>
-    ensures { result ≡ decimal_in word.now }
+fn decimal_of(digits: &[u8]) -> Option<u64>
+    ensures { result ≡ decimal_in digits.now }
 {
-    let digits = word.as_bytes();
     if digits.is_empty() || digits.len() > 10 {
         return None;
     }
@@ -88,14 +94,22 @@ fn hexadecimal_of(digits: &str) -> Option<u64>
 
 /// A number of one to ten decimal digits, at most `most`.
 #[tactic(auto, unfolding(crate::specs::Numbers::number_in))]
+pub fn number_of_bytes(most: u64, digits: &[u8]) -> Option<u64>
+    ensures value { result ≡ number_in most digits.now }
+    ensures limit { IfSome result (λ n. n ≤ most) }
+{
+    match decimal_of(digits) {
+        Some(value) if value <= most => Some(value),
+        _ => None,
+    }
+}
+
+/// The number of an argument.
 pub fn number_of(most: u64, word: &str) -> Option<u64>
     ensures value { result ≡ number_in most word.now }
     ensures limit { IfSome result (λ n. n ≤ most) }
 {
-    match decimal_of(word) {
-        Some(value) if value <= most => Some(value),
-        _ => None,
-    }
+    number_of_bytes(most, word.as_bytes())
 }
 
 /// The number of an address, decimal or after `0x` hexadecimal.
@@ -104,7 +118,7 @@ fn address_number(word: &str) -> Option<u64>
 {
     match word.strip_prefix("0x") {
         Some(digits) => hexadecimal_of(digits),
-        None => decimal_of(word),
+        None => decimal_of(word.as_bytes()),
     }
 }
 

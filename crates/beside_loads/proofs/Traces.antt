@@ -8,7 +8,8 @@ use Rattle.flexpret_top.specs.Ask.TheVariants.{Run}
 use Rattle.flexpret_top.specs.Command.{IsAnswer, Said}
 use Rattle.flexpret_top.specs.Commands.{ask}
 use Rattle.flexpret_top.specs.Content.{FileMap}
-use Rattle.flexpret_top.specs.Headline.{IsWrittenAlone, WritesRetired, machine_of}
+use Rattle.flexpret_top.specs.Headline.{IsIsolated, WritesIsolated, machine_of}
+use Rattle.flexpret_top.specs.Outcome.{KnownOutcome, State}
 use Rattle.flexpret_top.specs.PluggedPorts.{Row}
 use Rattle.flexpret_top.specs.Solo.{solo}
 use Rattle.flexpret_top.specs.Text.{text}
@@ -17,36 +18,28 @@ use Rattle.flexpret_top.specs.TraceLaws.{view_of}
 use Rattle.beside_loads.specs.Loads.{IsProtected, IsSameBeside, IsTraceBeside}
 
 -- status 0 is none of those at which nothing is said
-pub not-seven : {s : ℕ} → s ≡ 0 → s ≢ 7
+not-seven : {s : ℕ} → s ≡ 0 → s ≢ 7
 not-seven zero seven = cc
 
-pub not-eight : {s : ℕ} → s ≡ 0 → s ≢ 8
+not-eight : {s : ℕ} → s ≡ 0 → s ≢ 8
 not-eight zero eight = cc
 
-pub not-nine : {s : ℕ} → s ≡ 0 → s ≢ 9
+not-nine : {s : ℕ} → s ≡ 0 → s ≢ 9
 not-nine zero nine = cc
 
 -- into a sink that was empty
 written : (asked : Option Ask) (files : FileMap) (ports : List (Option Row))
-    (before bytes : List ℕ) → before ≡ [] → WritesRetired asked files ports (Some before)
+    (before bytes : List ℕ) → before ≡ [] → WritesIsolated asked files ports (Some before)
     (Some bytes) → (setup : List ℕ) (i n : ℕ) (v : View) → asked ≡ Some (Run setup i n) →
     IsProtected files ports setup i n v → bytes ≡ text (solo v n)
 written asked files ports before bytes empty wrote setup i n v is p =
-    let Wrote : Option Ask → Type 0 = λ o. WritesRetired o files ports (Some before) (Some bytes) in
-    let run : IsWrittenAlone (machine_of p.loaded ports) i n (Some before) (Some bytes) =
+    let Wrote : Option Ask → Type 0 =
+    λ o. WritesIsolated o files ports (Some before) (Some bytes) in
+    let run : IsIsolated (machine_of p.loaded ports) i n (Some before) (Some bytes) =
     (subst Wrote is wrote) p.loaded p.found in
-    run.alone p.hard p.quiet
+    run.by_view p.hard p.quiet
     ∙ ap (λ (xs : List ℕ). xs ++ text (solo (view_of (machine_of p.loaded ports) i n) n)) empty
     ∙ ap (λ (w : View). text (solo w n)) p.view
-
-all-written : (told : Option FileMap) (words : List (List ℕ))
-    (ports : List (Option Row)) (before bytes : List ℕ) → before ≡ [] →
-    IfSome told (λ files. WritesRetired (ask words) files ports (Some before) (Some bytes)) →
-    IfSome told (λ files. (setup : List ℕ) (i n : ℕ) (v : View) → ask words ≡ Some (Run setup i n) →
-    IsProtected files ports setup i n v → bytes ≡ text (solo v n))
-all-written None words ports before bytes empty wrote = tt
-all-written (Some files) words ports before bytes empty wrote =
-    written (ask words) files ports before bytes empty wrote
 
 -- the text of an answer with status 0, into an empty sink
 said-text : (Is : Answer → Type 0) (status : ℕ) (before bytes : List ℕ) → before ≡ [] →
@@ -61,24 +54,32 @@ said-text Is status before bytes empty zero h = go h.answer h.is h.said
         subst (λ (xs : List ℕ). Is (Says 0 xs)) same (subst (λ k. Is (Says k text)) none is)
     go Missing is said = absurd said
 
-all-said : (told : Option FileMap) (words : List (List ℕ)) (ports : List (Option Row)) (status : ℕ)
-    (before bytes : List ℕ) → before ≡ [] → status ≡ 0 →
-    IfSome told (λ files. Said (IsAnswer words files ports) status (Some before) (Some bytes)) →
-    IfSome told (λ files. IsAnswer words files ports (Says 0 bytes))
-all-said None words ports status before bytes empty zero said = tt
-all-said (Some files) words ports status before bytes empty zero said =
-    said-text (IsAnswer words files ports) status before bytes empty zero said
-
-pub traced : (told : Option FileMap) (words : List (List ℕ))
-    (ports : List (Option Row)) (status : ℕ) (before bytes : List ℕ) → before ≡ [] →
-    IfSome told (λ files. Said (IsAnswer words files ports) status (Some before) (Some bytes)) →
-    status ≡ 0 →
-    IfSome told (λ files. WritesRetired (ask words) files ports (Some before) (Some bytes)) →
-    IsTraceBeside told words ports bytes
-traced told words ports status before bytes empty said zero wrote = record {
-  answer = all-said told words ports status before bytes empty zero said;
-  text_of = all-written told words ports before bytes empty wrote;
-}
+pub traced : {F K P : Type 0} (told : Option FileMap) (words : List (List ℕ))
+    (before after : State F K P) (status : ℕ) →
+    IfSome told (λ files. KnownOutcome files (ask words) before after status) →
+    (first bytes : List ℕ) → first ≡ [] → before.written ≡ Some first →
+    after.written ≡ Some bytes → status ≡ 0 → IsTraceBeside told words before.rows bytes
+traced None words before after status known first bytes empty was is zero =
+    record { answer = tt; text_of = tt }
+traced (Some files) words before after status known first bytes empty was is zero =
+    let wrote : WritesIsolated (ask words) files before.rows (Some first) (Some bytes) =
+    (let At : Option (List ℕ) → Type 0 = λ o.
+    WritesIsolated (ask words) files before.rows o after.written in
+    let Now : Option (List ℕ) → Type 0 = λ o.
+    WritesIsolated (ask words) files before.rows (Some first) o in
+    subst Now is (subst At was (known.isolated zero))) in
+    let said : Said (IsAnswer words files before.rows) status (Some first) (Some bytes) =
+    (let At : Option (List ℕ) → Type 0 = λ o.
+    Said (IsAnswer words files before.rows) status o after.written in
+    let Now : Option (List ℕ) → Type 0 = λ o.
+    Said (IsAnswer words files before.rows) status (Some first) o in
+    subst Now is (subst At was
+    (known.said (not-seven zero) (not-eight zero) (not-nine zero)))) in
+    record {
+      answer =
+          said-text (IsAnswer words files before.rows) status first bytes empty zero said;
+      text_of = written (ask words) files before.rows first bytes empty wrote;
+    }
 
 -- two traces of a protected thread
 both-same : (one other : Option FileMap) (words : List (List ℕ)) (ports ports' : List (Option Row))

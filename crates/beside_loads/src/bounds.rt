@@ -5,7 +5,7 @@ ghost use Rattle.std.specs.Prelude.{◌≡◌, [], IfOk, map, string_bytes, vec_
 ghost use Rattle.beside_loads.specs.Bounds.{IsBoundBeside};
 
 use crate::NoTrace;
-use flexpret_top::{Files, MemSink, Ports, flexpret, programs_keep_rules};
+use flexpret_top::{Files, MemSink, Ports, bounds_while_scheduled, flexpret, programs_keep_rules};
 use std::alloc::Global;
 
 /// Runs the command of some arguments with an empty sink, and returns its status.
@@ -22,6 +22,7 @@ fn write_bound<F: Files>(
         IsBoundBeside (F.told files.old) (map string_bytes words.now) out.new.bytes }
 {
     programs_keep_rules();
+    bounds_while_scheduled();
     flexpret(alloc, words, files, out, ports)
 }
 

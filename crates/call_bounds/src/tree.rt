@@ -38,7 +38,7 @@ pub enum CallNo {
     TimedWait { address: u32 },
     /// A reachable word of a reached function has a back edge to a word of the function that is no
     /// head of a counting loop around it; the word's address.
-    #[error("a way back without a bound at {address:#010x}")]
+    #[error("a back edge without a bound at {address:#010x}")]
     UnboundedBackEdge { address: u32 },
     /// Memory ran out.
     #[error("out of memory")]
@@ -51,7 +51,7 @@ pub enum CallNo {
     Recursion { address: u32 },
     /// A reachable word of a reached routine has an edge out of the routine, or is a call at its
     /// last word; the word's address.
-    #[error("a way out of a routine at {address:#010x}")]
+    #[error("an edge out of a routine at {address:#010x}")]
     Escape { address: u32 },
 }
 

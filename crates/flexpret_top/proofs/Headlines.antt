@@ -1,8 +1,8 @@
 -- The promises for one thread, from a command's status and output.
 use Rattle.std.proofs.Common.{◌≡◌, ℕ, List, Option, Some, None, Result, Ok, Err}
-use Rattle.std.proofs.Common.{inl, inr, refl, ap, sym, subst, ◌∙◌, arith, nat_lt}
+use Rattle.std.proofs.Common.{inl, inr, refl, ap, sym, subst, ◌∙◌, nat_lt}
 use Rattle.std.proofs.Common.{eqb-true, Bool, true, false, not, if◌then◌else◌, ◌==◌}
-use Rattle.std.specs.Prelude.{IfSome, option_map}
+use Rattle.std.specs.Prelude.{option_map}
 use Rattle.std.specs.Io.KnownBytes.{Appends}
 use Rattle.fp_io.specs.Content.{FileMap}
 use Rattle.fp_ports.specs.PluggedPorts.{Row}
@@ -27,7 +27,7 @@ use Rattle.region_tree.specs.declared.section.Section.{Section}
 use Rattle.region_tree.specs.declared.tree.TreeNo.{TreeNo}
 use Rattle.region_tree.specs.declared.tree.TreeNo.TheVariants as in_tree
 use Rattle.run_laws.specs.RetiredTraces.{RetiredTraceAlone, RetiredTraceByPhases}
-use Rattle.run_laws.specs.TraceLaws.{IsConfinedHard, TraceAlone, TraceByPhases}
+use Rattle.run_laws.specs.TraceLaws.{IsConfinedHard}
 use Rattle.fp_setup.specs.AcceptedSetups.{AcceptedKeepRules}
 use Rattle.fp_setup.specs.Rules.{KeepsRules}
 use Rattle.fp_setup.specs.Settings.{Settings, size_of}
@@ -35,12 +35,8 @@ use Rattle.fp_setup.specs.Setup.{setup as setup_meant}
 use Rattle.fp_setup.specs.declared.refusal.Fault.{Fault}
 use Rattle.setup_model.specs.Start.{thread_setup_of}
 use Rattle.slot_scheduler.specs.ModeWord.{mode_of}
-use Rattle.section_visits.specs.SetupCallVisitBound.{CallVisitsStayBounded}
 use Rattle.section_visits.specs.SetupInSettings.{CallVisitsStayBoundedInSettings}
-use Rattle.section_visits.specs.SetupInSettings.{CallVisitsStayBoundedWhileScheduled}
 use Rattle.section_visits.specs.SetupInSettings.{VisitsStayBoundedInSettings}
-use Rattle.section_visits.specs.SetupInSettings.{VisitsStayBoundedWhileScheduled}
-use Rattle.section_visits.specs.SetupVisitBound.{VisitsStayBounded}
 use Rattle.trace_print.specs.declared.refusals.Refusal.TheVariants as refusal
 use Rattle.command_files.specs.BoundAnswer.{IsBoundAnswer, IsSectionAnswer}
 use Rattle.command_files.specs.BoundAnswer.{section_fault, section_tree}
@@ -52,15 +48,10 @@ use Rattle.command_files.specs.Answer.{Answer, IsSaid, refusal_answer, then_by, 
 use Rattle.flexpret_top.specs.SoloAndCheck.{alone_fault, alone_in, alone_of}
 use Rattle.flexpret_top.specs.SoloAndCheck.{alone_text, unless_fault}
 use Rattle.command_files.specs.Elf.{elf_in, of_elf}
-use Rattle.ask_words.specs.Commands.{ask}
-use Rattle.command_files.specs.declared.status.Status.{Status}
-use Rattle.command_files.specs.declared.status.Status.TheVariants.{Read, Write}
-use Rattle.command_files.specs.declared.status.Status.TheVariants.{NoMemory as OutOfMemory}
-use Rattle.command_files.specs.Status.{number_of}
-use Rattle.flexpret_top.specs.Command.{IsAnswerIn, IsAnswerTo, Said}
+use Rattle.flexpret_top.specs.Command.{IsAnswerTo, Said}
 use Rattle.flexpret_top.specs.Headline.{BoundsCallVisits, BoundsVisits, IsImported}
-use Rattle.flexpret_top.specs.Headline.{IsLongest, IsLongestByCalls, WritesAlone, WritesAsRun}
-use Rattle.flexpret_top.specs.Headline.{WritesByPhases, WritesImage, WritesRetired, machine_of}
+use Rattle.flexpret_top.specs.Headline.{IsLongest, IsLongestByCalls, WritesAsRun}
+use Rattle.flexpret_top.specs.Headline.{WritesImage, WritesIsolated, machine_of}
 use Rattle.command_files.specs.Program.{image_in, of_setup, program, setup_in, with_image}
 use Rattle.flexpret_top.specs.Run.{trace_of}
 
@@ -98,74 +89,35 @@ program-keeps : AcceptedKeepRules → (files : FileMap) (name : List ℕ) (p : P
 program-keeps keep files name p is = file-keeps keep files (files name) p is
 
 -- over one map of files
-alone-over : TraceAlone → AcceptedKeepRules → (asked : Option Ask) (files : FileMap)
-    (ports : List (Option Row)) (before after : Option (List ℕ)) →
-    Said (IsAnswerTo asked files ports) 0 before after → WritesAlone asked files ports before after
-alone-over law keep None files ports before after said = tt
-alone-over law keep (Some (Run setup i n)) files ports before after said =
-    λ p is hard quiet. (
-    let answers = ap (λ (q : Result Program Answer). ends (then_by q (trace_of ports i n))) is in
-    let Tells : Answer → Type 0 = IsSaid 0 before after in
-    let told = subst Tells (said.is ∙ answers) said.said in
-    let Adds : List ℕ → Type 0 = Appends before after in
-    subst Adds
-    (law (machine_of p ports) i n (program-keeps keep files setup p is) hard quiet) told.1)
-alone-over law keep (Some (Dump setup n)) files ports before after said = tt
-alone-over law keep (Some (Asm source)) files ports before after said = tt
-alone-over law keep (Some (Bound setup i section)) files ports before after said = tt
-alone-over law keep (Some (Selfrun number)) files ports before after said = tt
-alone-over law keep (Some (Phases setup n)) files ports before after said = tt
-alone-over law keep (Some (Solo setup i n)) files ports before after said = tt
-alone-over law keep (Some (Check setup i n trace)) files ports before after said = tt
-alone-over law keep (Some (Elf file)) files ports before after said = tt
-alone-over law keep (Some (Calls setup i section routines)) files ports before after said = tt
-
-pub alone-of : TraceAlone → AcceptedKeepRules → (told : Option FileMap)
-    (asked : Option Ask) (ports : List (Option Row)) (before after : Option (List ℕ)) →
-    IfSome told (λ files. Said (IsAnswerTo asked files ports) 0 before after) →
-    IfSome told (λ files. WritesAlone asked files ports before after)
-alone-of law keep None asked ports before after said = tt
-alone-of law keep (Some files) asked ports before after said =
-    alone-over law keep asked files ports before after said
-
-retired-over : RetiredTraceAlone → RetiredTraceByPhases → AcceptedKeepRules →
+pub isolated-over : RetiredTraceAlone → RetiredTraceByPhases → AcceptedKeepRules →
     (asked : Option Ask) (files : FileMap) (ports : List (Option Row))
     (before after : Option (List ℕ)) → Said (IsAnswerTo asked files ports) 0 before after →
-    WritesRetired asked files ports before after
-retired-over law phased keep None files ports before after said = tt
-retired-over law phased keep (Some (Run setup i n)) files ports before after said =
+    WritesIsolated asked files ports before after
+isolated-over law phased keep None files ports before after said = tt
+isolated-over law phased keep (Some (Run setup i n)) files ports before after said =
     λ p is. (
     let answers = ap (λ (q : Result Program Answer). ends (then_by q (trace_of ports i n))) is in
     let Tells : Answer → Type 0 = IsSaid 0 before after in
     let told = subst Tells (said.is ∙ answers) said.said in
     let Adds : List ℕ → Type 0 = Appends before after in
     record {
-      alone =
+      by_view =
           λ hard quiet. subst Adds
           (law (machine_of p ports) i n (program-keeps keep files setup p is) hard quiet) told.1;
-      phased =
+      by_phases =
           λ confined kept. subst Adds (phased (machine_of p ports) i n
           (program-keeps keep files setup p is) confined kept) told.1;
     })
-retired-over law phased keep (Some (Dump setup n)) files ports before after said = tt
-retired-over law phased keep (Some (Asm source)) files ports before after said = tt
-retired-over law phased keep (Some (Bound setup i section)) files ports before after said = tt
-retired-over law phased keep (Some (Selfrun number)) files ports before after said = tt
-retired-over law phased keep (Some (Phases setup n)) files ports before after said = tt
-retired-over law phased keep (Some (Solo setup i n)) files ports before after said = tt
-retired-over law phased keep (Some (Check setup i n trace)) files ports before after said = tt
-retired-over law phased keep (Some (Elf file)) files ports before after said = tt
-retired-over law phased keep (Some (Calls setup i section routines)) files ports before after said =
-    tt
-
-pub retired-of : RetiredTraceAlone → RetiredTraceByPhases →
-    AcceptedKeepRules → (told : Option FileMap) (asked : Option Ask)
-    (ports : List (Option Row)) (before after : Option (List ℕ)) →
-    IfSome told (λ files. Said (IsAnswerTo asked files ports) 0 before after) →
-    IfSome told (λ files. WritesRetired asked files ports before after)
-retired-of law phased keep None asked ports before after said = tt
-retired-of law phased keep (Some files) asked ports before after said =
-    retired-over law phased keep asked files ports before after said
+isolated-over law phased keep (Some (Dump setup n)) files ports before after said = tt
+isolated-over law phased keep (Some (Asm source)) files ports before after said = tt
+isolated-over law phased keep (Some (Bound setup i section)) files ports before after said = tt
+isolated-over law phased keep (Some (Selfrun number)) files ports before after said = tt
+isolated-over law phased keep (Some (Phases setup n)) files ports before after said = tt
+isolated-over law phased keep (Some (Solo setup i n)) files ports before after said = tt
+isolated-over law phased keep (Some (Check setup i n trace)) files ports before after said = tt
+isolated-over law phased keep (Some (Elf file)) files ports before after said = tt
+isolated-over law phased keep (Some (Calls setup i section routines)) files ports
+    before after said = tt
 
 -- the text that `solo` writes with status 0 is that of a confined hard thread
 record IsSolo (p : Program) (i n : ℕ) (ports : List (Option Row))
@@ -193,7 +145,7 @@ solo-said p i n ports before after said =
       wrote = text.1;
     }
 
-as-run-over : TraceAlone → AcceptedKeepRules → (asked : Option Ask)
+pub as-run-over : RetiredTraceAlone → AcceptedKeepRules → (asked : Option Ask)
     (files : FileMap) (ports : List (Option Row)) (before after : Option (List ℕ)) →
     Said (IsAnswerTo asked files ports) 0 before after → WritesAsRun asked files ports before after
 as-run-over law keep None files ports before after said = tt
@@ -216,45 +168,6 @@ as-run-over law keep (Some (Phases setup n)) files ports before after said = tt
 as-run-over law keep (Some (Check setup i n trace)) files ports before after said = tt
 as-run-over law keep (Some (Elf file)) files ports before after said = tt
 as-run-over law keep (Some (Calls setup i section routines)) files ports before after said = tt
-
-pub as-run-of : TraceAlone → AcceptedKeepRules → (told : Option FileMap)
-    (asked : Option Ask) (ports : List (Option Row)) (before after : Option (List ℕ)) →
-    IfSome told (λ files. Said (IsAnswerTo asked files ports) 0 before after) →
-    IfSome told (λ files. WritesAsRun asked files ports before after)
-as-run-of law keep None asked ports before after said = tt
-as-run-of law keep (Some files) asked ports before after said =
-    as-run-over law keep asked files ports before after said
-
-phased-over : TraceByPhases → AcceptedKeepRules → (asked : Option Ask)
-    (files : FileMap) (ports : List (Option Row)) (before after : Option (List ℕ)) →
-    Said (IsAnswerTo asked files ports) 0 before after →
-    WritesByPhases asked files ports before after
-phased-over law keep None files ports before after said = tt
-phased-over law keep (Some (Run setup i n)) files ports before after said =
-    λ p is confined kept. (
-    let answers = ap (λ (q : Result Program Answer). ends (then_by q (trace_of ports i n))) is in
-    let Tells : Answer → Type 0 = IsSaid 0 before after in
-    let told = subst Tells (said.is ∙ answers) said.said in
-    let Adds : List ℕ → Type 0 = Appends before after in
-    subst Adds
-    (law (machine_of p ports) i n (program-keeps keep files setup p is) confined kept) told.1)
-phased-over law keep (Some (Dump setup n)) files ports before after said = tt
-phased-over law keep (Some (Asm source)) files ports before after said = tt
-phased-over law keep (Some (Bound setup i section)) files ports before after said = tt
-phased-over law keep (Some (Selfrun number)) files ports before after said = tt
-phased-over law keep (Some (Phases setup n)) files ports before after said = tt
-phased-over law keep (Some (Solo setup i n)) files ports before after said = tt
-phased-over law keep (Some (Check setup i n trace)) files ports before after said = tt
-phased-over law keep (Some (Elf file)) files ports before after said = tt
-phased-over law keep (Some (Calls setup i section routines)) files ports before after said = tt
-
-pub phased-of : TraceByPhases → AcceptedKeepRules → (told : Option FileMap)
-    (asked : Option Ask) (ports : List (Option Row)) (before after : Option (List ℕ)) →
-    IfSome told (λ files. Said (IsAnswerTo asked files ports) 0 before after) →
-    IfSome told (λ files. WritesByPhases asked files ports before after)
-phased-of law keep None asked ports before after said = tt
-phased-of law keep (Some files) asked ports before after said =
-    phased-over law keep asked files ports before after said
 
 -- the image of an executable, by what its definition gives
 elf-imported : ReadsBack → (file : List ℕ) (before after : Option (List ℕ))
@@ -279,7 +192,7 @@ unfolding elf_in
 file-imported law bytes before after said =
     elf-imported law bytes before after (elf_of bytes) refl said
 
-imported-over : ReadsBack → (asked : Option Ask) (files : FileMap) (ports : List (Option Row))
+pub imported-over : ReadsBack → (asked : Option Ask) (files : FileMap) (ports : List (Option Row))
     (before after : Option (List ℕ)) → Said (IsAnswerTo asked files ports) 0 before after →
     WritesImage asked files before after
 imported-over law None files ports before after said = tt
@@ -298,14 +211,6 @@ imported-over law (Some (Elf name)) files ports before after said =
     ends (then_by (over_file elf_in file) (λ segments. Ok (file_of segments)))) there in
     let Tells : Answer → Type 0 = IsSaid 0 before after in
     file-imported law bytes before after (subst Tells (said.is ∙ answers) said.said))
-
-pub imported-of : ReadsBack → (told : Option FileMap) (asked : Option Ask)
-    (ports : List (Option Row)) (before after : Option (List ℕ)) →
-    IfSome told (λ files. Said (IsAnswerTo asked files ports) 0 before after) →
-    IfSome told (λ files. WritesImage asked files before after)
-imported-of law None asked ports before after said = tt
-imported-of law (Some files) asked ports before after said =
-    imported-over law asked files ports before after said
 
 refused-said : (x : Answer) (code address : ℕ) (before after : Option (List ℕ)) →
     Some x ≡ Some (refusal_answer (refusal.Bound code address)) → IsSaid 0 before after x → ⊥
@@ -326,19 +231,7 @@ tree-refused t (in_tree.UnboundedBackEdge a) x before after line said =
     refused-said x 4 a before after line said
 tree-refused t in_tree.NoMemory x before after line said = cc
 
--- the theorems on visits
-pub record OnVisits : Type 0 where
-  pub quiet : VisitsStayBounded
-  pub scheduled : VisitsStayBoundedWhileScheduled
-  pub set : VisitsStayBoundedInSettings
-
--- the theorems on call visits
-pub record OnCallVisits : Type 0 where
-  pub quiet : CallVisitsStayBounded
-  pub scheduled : CallVisitsStayBoundedWhileScheduled
-  pub set : CallVisitsStayBoundedInSettings
-
-section-longest : OnVisits → (p : Program) (i : ℕ) (section : Section)
+section-longest : VisitsStayBoundedInSettings → (p : Program) (i : ℕ) (section : Section)
     (before after : Option (List ℕ)) (fault : Option ℕ) (x : Answer) →
     IsSectionAnswer p i section fault x → IsSaid 0 before after x →
     IsLongest p i section before after
@@ -355,23 +248,16 @@ section-longest law p i section before after None x (inr (inr bounded)) said =
     record {
       cycles = bounded.cycles;
       wrote = (subst Tells bounded.line said).1;
+      accepted = bounded.accepted;
       met = bounded.is;
       longest =
-          λ m n rules alike quiet last earlier visit keeps.
-          law.quiet p.setup p.image section i bounded.cycles m n bounded.accepted bounded.is.kept
-          rules alike quiet last earlier visit keeps;
-      while_scheduled =
-          λ m n rules starts words kept last earlier visit keeps.
-          law.scheduled p.setup p.image section p.setup.slots i bounded.cycles m n bounded.accepted
-          bounded.is.kept rules starts words kept last earlier visit keeps;
-      in_settings =
           λ m n rules words last earlier here visit keeps.
-          law.set p.setup p.image section p.setup.slots i bounded.cycles m n bounded.accepted
+          law p.setup p.image section p.setup.slots i bounded.cycles m n bounded.accepted
           bounded.is.kept rules words last earlier here visit keeps;
     }
 
-visits-over : OnVisits → (asked : Option Ask) (files : FileMap) (ports : List (Option Row))
-    (before after : Option (List ℕ)) → Said (IsAnswerTo asked files ports) 0 before after →
+pub visits-over : VisitsStayBoundedInSettings → (asked : Option Ask) (files : FileMap)
+    (ports : List (Option Row)) (before after : Option (List ℕ)) → Said (IsAnswerTo asked files ports) 0 before after →
     BoundsVisits asked files before after
 visits-over law None files ports before after said = tt
 visits-over law (Some (Run setup i n)) files ports before after said = tt
@@ -388,14 +274,6 @@ visits-over law (Some (Bound setup i section)) files ports before after said =
     let Answers : Result Program Answer → Type 0 = λ q. IsBoundAnswer q i section said.answer in
     section-longest law p i section before after (section_fault p.setup i section) said.answer
     (subst Answers is said.is) said.said)
-
-pub visits-of : OnVisits → (told : Option FileMap) (asked : Option Ask)
-    (ports : List (Option Row)) (before after : Option (List ℕ)) →
-    IfSome told (λ files. Said (IsAnswerTo asked files ports) 0 before after) →
-    IfSome told (λ files. BoundsVisits asked files before after)
-visits-of law None asked ports before after said = tt
-visits-of law (Some files) asked ports before after said =
-    visits-over law asked files ports before after said
 
 call-refused : (no : CallNo) (x : Answer) (before after : Option (List ℕ)) →
     Some x ≡ option_map refusal_answer (call_refusal no) → IsSaid 0 before after x → ⊥
@@ -416,8 +294,8 @@ call-refused (in_calls.Escape a) x before after line said =
 call-refused in_calls.NoMemory x before after line said = cc
 
 -- over the routines of a file
-listed-longest : OnCallVisits → (p : Program) (i : ℕ) (section : Section) (file : List ℕ)
-    (before after : Option (List ℕ)) (x : Answer) (r : Result (List Routine) RoutinesRefused) →
+listed-longest : CallVisitsStayBoundedInSettings → (p : Program) (i : ℕ) (section : Section)
+    (file : List ℕ) (before after : Option (List ℕ)) (x : Answer) (r : Result (List Routine) RoutinesRefused) →
     routines_of (size_of p.setup.version) file ≡ r →
     IsRoutinesAnswer p i section (of_routines r) x → IsSaid 0 before after x →
     IsLongestByCalls p i section file before after
@@ -433,20 +311,12 @@ listed-longest law p i section file before after x (Ok routines) listed (inr (in
       listed = listed;
       cycles = bounded.cycles;
       wrote = (subst Tells bounded.line said).1;
+      listing = bounded.listing;
+      accepted = bounded.accepted;
       met = bounded.is;
       longest =
-          λ m n rules alike quiet last earlier visit returns keeps.
-          law.quiet (calls (section_listing p section routines)) p.setup.slots i bounded.cycles m
-          n bounded.listing bounded.accepted bounded.is.kept rules alike quiet last earlier visit
-          returns keeps;
-      while_scheduled =
-          λ m n rules starts words kept last earlier visit returns keeps.
-          law.scheduled (calls (section_listing p section routines)) p.setup.slots i bounded.cycles
-          m n bounded.listing bounded.accepted bounded.is.kept rules starts words kept last earlier
-          visit returns keeps;
-      in_settings =
           λ m n rules words last earlier here visit returns keeps.
-          law.set (calls (section_listing p section routines)) p.setup.slots i bounded.cycles m
+          law (calls (section_listing p section routines)) p.setup.slots i bounded.cycles m
           n bounded.listing bounded.accepted bounded.is.kept rules words last earlier here visit
           returns keeps;
     }
@@ -458,7 +328,7 @@ listed-longest law p i section file before after x (Err in_list.NoMemory) listed
     let Tells : Answer → Type 0 = IsSaid 0 before after in
     absurd (no-zero 9 (subst Tells same said).0 refl)
 
-routines-longest : OnCallVisits → (p : Program) (i : ℕ) (section : Section)
+routines-longest : CallVisitsStayBoundedInSettings → (p : Program) (i : ℕ) (section : Section)
     (file : List ℕ) (before after : Option (List ℕ)) (x : Answer) →
     IsRoutinesAnswer p i section (routines_in (size_of p.setup.version) file) x →
     IsSaid 0 before after x → IsLongestByCalls p i section file before after
@@ -467,7 +337,7 @@ routines-longest law p i section file before after x is said =
     listed-longest law p i section file before after x
     (routines_of (size_of p.setup.version) file) refl is said
 
-calls-longest : OnCallVisits → (p : Program) (i : ℕ) (section : Section)
+calls-longest : CallVisitsStayBoundedInSettings → (p : Program) (i : ℕ) (section : Section)
     (file : List ℕ) (before after : Option (List ℕ)) (fault : Option ℕ) (x : Answer) →
     IsSectionCallsAnswer p i section (Some file) fault x → IsSaid 0 before after x →
     IsLongestByCalls p i section file before after
@@ -477,8 +347,8 @@ calls-longest law p i section file before after (Some code) x is said =
 calls-longest law p i section file before after None x is said =
     routines-longest law p i section file before after x is said
 
-call-visits-over : OnCallVisits → (asked : Option Ask) (files : FileMap) (ports : List (Option Row))
-    (before after : Option (List ℕ)) → Said (IsAnswerTo asked files ports) 0 before after →
+pub call-visits-over : CallVisitsStayBoundedInSettings → (asked : Option Ask) (files : FileMap)
+    (ports : List (Option Row)) (before after : Option (List ℕ)) → Said (IsAnswerTo asked files ports) 0 before after →
     BoundsCallVisits asked files before after
 call-visits-over law None files ports before after said = tt
 call-visits-over law (Some (Run setup i n)) files ports before after said = tt
@@ -497,29 +367,3 @@ call-visits-over law (Some (Calls setup i section routines)) files ports before 
     let In : Option (List ℕ) → Type 0 = λ o. IsCallsAnswer (Ok p) i section o said.answer in
     calls-longest law p i section file before after (section_fault p.setup i section) said.answer
     (subst In there (subst Answers is said.is)) said.said)
-
-pub call-visits-of : OnCallVisits → (told : Option FileMap) (asked : Option Ask)
-    (ports : List (Option Row)) (before after : Option (List ℕ)) →
-    IfSome told (λ files. Said (IsAnswerTo asked files ports) 0 before after) →
-    IfSome told (λ files. BoundsCallVisits asked files before after)
-call-visits-of law None asked ports before after said = tt
-call-visits-of law (Some files) asked ports before after said =
-    call-visits-over law asked files ports before after said
-
--- the output of a command with status 0
-pub said-zero : (told : Option FileMap) (words : List (List ℕ)) (asked : Ask)
-    (ports : List (Option Row)) (s : Status) (n : ℕ) (before after : Option (List ℕ)) →
-    ask words ≡ Some asked → n ≡ number_of s → n ≡ 0 →
-    ((s ≡ Read → ⊥) → (s ≡ Write → ⊥) → (s ≡ OutOfMemory → ⊥) →
-    IfSome told (λ files. Said (IsAnswerIn asked ports files) (number_of s) before after)) →
-    IfSome told (λ files. Said (IsAnswerTo (ask words) files ports) 0 before after)
-said-zero told words asked ports s n before after is number zero said =
-    let nought : number_of s ≡ 0 = sym number ∙ zero in
-    let read : s ≡ Read → ⊥ = λ e. (let n = ap number_of e in omega (arith, nought, n)) in
-    let write : s ≡ Write → ⊥ = λ e. (let n = ap number_of e in omega (arith, nought, n)) in
-    let memory : s ≡ OutOfMemory → ⊥ = λ e. (let n = ap number_of e in omega (arith, nought, n)) in
-    let First : ℕ → Type 0 =
-    λ k. IfSome told (λ files. Said (IsAnswerIn asked ports files) k before after) in
-    let Then : Option Ask → Type 0 =
-    λ o. IfSome told (λ files. Said (IsAnswerTo o files ports) 0 before after) in
-    subst Then (sym is) (subst First nought (said read write memory))

@@ -5,6 +5,7 @@ mod Headlines
 mod OneThread
 mod Preparing
 mod Stopping
-mod Usage
+mod Outcomes
+mod SimplerPremises
 mod Requesting
 mod KeptRules

@@ -121,7 +121,8 @@ pub stop-complete : (told : Option FileMap) (asked : Ask) (ports : List (Option 
     (b a : ℕ) (stop : Stop) (s : Status) (b' a' : ℕ) (before after : Option (List ℕ)) →
     IsStop told (IsAnswerIn asked ports) b a stop →
     Ends stop b' a' before after s → (Rose b a → ⊥) → (Rose b' a' → ⊥) →
-    IfSome told (λ files. (s ≡ NoMemory) ⊎ Answered (IsAnswerIn asked ports files) (number_of s))
+    IfSome told (λ files. (number_of s ≡ 9)
+    ⊎ Answered (IsAnswerIn asked ports files) (number_of s))
 stop-complete None asked ports b a stop s b' a' before after is ends fetches puts = tt
 stop-complete (Some files) asked ports b a
     (why.Refused refusal) s b' a' before after is (inl said) fetches puts =
@@ -139,7 +140,7 @@ stop-complete (Some files) asked ports b a why.Read s b' a' before after
     (inr missing) ends fetches puts =
     inr (record { answer = Missing; is = missing; answered = ap number_of ends })
 stop-complete (Some files) asked ports b a why.NoMemory s b' a' before after is ends fetches puts =
-    inl ends
+    inl (ap number_of ends)
 
 -- its status is neither Ok nor that of a usage error
 stop_number : (stop : Stop) (s : Status) (b' a' : ℕ) (before after : Option (List ℕ)) →

@@ -9,6 +9,7 @@ use Rattle.ask_words.specs.declared.asked.Ask.TheVariants.{Run, Bound, Solo, Elf
 use Rattle.bound_calc.specs.Bound.{IsBound, course}
 use Rattle.call_bounds.specs.RoutinesFile.{routines_of}
 use Rattle.call_bounds.specs.declared.routines.Routine.{Routine}
+use Rattle.call_bounds.specs.CallRefusals.{IsCallable, IsListing}
 use Rattle.call_bounds.specs.CallWalk.{IsCallBound, route}
 use Rattle.call_bounds.specs.Listing.{calls}
 use Rattle.section_visits.specs.CallVisits.{IsCallVisit, KeepsReturns}
@@ -19,17 +20,16 @@ use Rattle.fp_setup.specs.Rules.{KeepsRules}
 use Rattle.fp_setup.specs.Settings.{size_of}
 use Rattle.fp_image.specs.Format.{image_of}
 use Rattle.fp_image.specs.declared.parts.Segment.{Segment}
-use Rattle.region_tree.specs.Tree.{graph}
+use Rattle.region_tree.specs.Tree.{IsTree, graph}
 use Rattle.region_tree.specs.declared.section.Section.{Section}
 use Rattle.core_model.specs.Phased.{phased}
 use Rattle.run_laws.specs.RetiredTraces.{IsRetiredQuiet, KeepsRetiredRegions}
 use Rattle.run_laws.specs.TraceLaws.{Machine, IsConfinedHard, IsConfinedThrough}
-use Rattle.run_laws.specs.TraceLaws.{IsQuiet, KeepsRegions, phases_in, trace, view_of}
+use Rattle.run_laws.specs.TraceLaws.{phases_in, trace, view_of}
 use Rattle.section_visits.specs.InSettings.{Throughout}
 use Rattle.section_visits.specs.SetupInSettings.{HasSameWords, HasSameWordsOfParts}
-use Rattle.section_visits.specs.SetupInSettings.{IsSetIn, KeepsScheduling, StartsHard}
-use Rattle.section_visits.specs.SetupCallVisitBound.{IsAlikeInParts}
-use Rattle.section_visits.specs.SetupVisitBound.{IsAlike, issues}
+use Rattle.section_visits.specs.SetupInSettings.{IsSetIn}
+use Rattle.section_visits.specs.SetupVisitBound.{issues}
 use Rattle.trace_print.specs.Bounds.{bound_text}
 use Rattle.trace_print.specs.Text.{text}
 use Rattle.section_visits.specs.Visits.{Issued, IsVisit, KeepsBounds, first_of}
@@ -42,76 +42,47 @@ use Rattle.command_files.specs.Program.{program}
 abbrev pub machine_of : Program → List (Option Row) → Machine
 machine_of p ports = record { setup = p.setup; image = p.image; ports = ports }
 
--- For every confined hard thread, in a run that writes no configuration register, `run` wrote the
--- text of the one-thread definition over the thread's view: its own code, slots, private memory and
--- inputs.
-abbrev pub WritesAlone : Option Ask → FileMap → List (Option Row) → Option (List ℕ) →
-    Option (List ℕ) → Type 0
-WritesAlone (Some (Run setup i n)) files ports before after =
-    (p : Program) → program files setup ≡ Ok p →
-    IsConfinedHard (machine_of p ports) i → IsQuiet (machine_of p ports) n →
-    Appends before after (text (solo (view_of (machine_of p ports) i n) n))
-WritesAlone _ files ports before after = Unit {0}
-
--- The text that `run` wrote for a confined thread, if no issue that has retired writes registers:
--- those in flight after n cycles may write them. The clauses before and after this one follow from
--- it.
-pub record IsWrittenAlone (m : Machine) (i n : ℕ) (before after : Option (List ℕ)) : Type 0 where
-  pub alone : IsConfinedHard m i → IsRetiredQuiet m n →
+-- Isolation: `run` wrote the text of the one-thread definition over the thread's view. That is its
+-- own code, slots, private memory and inputs. The thread is confined, and starts hard and active.
+-- No issue that has retired writes a configuration register; those in flight after n cycles may.
+--
+-- A confined thread need not be hard if no setting of the run makes it soft and active. Then the
+-- text is that of the definition over its view and these settings, which `phases` writes. No issue
+-- that has retired may write a region register.
+pub record IsIsolated (m : Machine) (i n : ℕ) (before after : Option (List ℕ)) : Type 0 where
+  pub by_view : IsConfinedHard m i → IsRetiredQuiet m n →
       Appends before after (text (solo (view_of m i n) n))
-  pub phased : IsConfinedThrough m i n → KeepsRetiredRegions m n →
+  pub by_phases : IsConfinedThrough m i n → KeepsRetiredRegions m n →
       Appends before after (text (phased (view_of m i n) (phases_in m n) n))
 
-abbrev pub WritesRetired : Option Ask → FileMap → List (Option Row) → Option (List ℕ) →
+abbrev pub WritesIsolated : Option Ask → FileMap → List (Option Row) → Option (List ℕ) →
     Option (List ℕ) → Type 0
-WritesRetired (Some (Run setup i n)) files ports before after =
+WritesIsolated (Some (Run setup i n)) files ports before after =
     (p : Program) → program files setup ≡ Ok p →
-    IsWrittenAlone (machine_of p ports) i n before after
-WritesRetired _ files ports before after = Unit {0}
+    IsIsolated (machine_of p ports) i n before after
+WritesIsolated _ files ports before after = Unit {0}
 
--- In a run that writes no configuration register, `solo` wrote the trace of the machine, which
--- `run` writes.
+-- `solo` wrote the trace of the machine, which `run` writes. No issue that has retired may write a
+-- configuration register.
 abbrev pub WritesAsRun : Option Ask → FileMap → List (Option Row) → Option (List ℕ) →
     Option (List ℕ) → Type 0
 WritesAsRun (Some (Solo setup i n)) files ports before after =
-    (p : Program) → program files setup ≡ Ok p → IsQuiet (machine_of p ports) n →
+    (p : Program) → program files setup ≡ Ok p → IsRetiredQuiet (machine_of p ports) n →
     Appends before after (trace (machine_of p ports) i n)
 WritesAsRun _ files ports before after = Unit {0}
 
--- Take a confined thread that no setting of the run makes soft active. `run` wrote the text of the
--- one-thread definition over the thread's view and these settings. This holds in a run that writes
--- no region register. `phases` writes the lines of the settings.
-abbrev pub WritesByPhases : Option Ask → FileMap → List (Option Row) → Option (List ℕ) →
-    Option (List ℕ) → Type 0
-WritesByPhases (Some (Run setup i n)) files ports before after =
-    (p : Program) → program files setup ≡ Ok p →
-    IsConfinedThrough (machine_of p ports) i n → KeepsRegions (machine_of p ports) n →
-    Appends before after
-    (text (phased (view_of (machine_of p ports) i n) (phases_in (machine_of p ports) n) n))
-WritesByPhases _ files ports before after = Unit {0}
-
--- `bound` wrote the line of a number of cycles. Some path through the section costs that number,
--- and no visit of the section takes longer if it keeps the stated loop bounds. This holds in every
--- quiet run of every machine whose setup keeps the rules, as each accepted one does. The thread
--- must be hard, and the slots and the words in the section the same. Less is enough: no issue
--- writes slots or modes, and the words that the section can reach are the same. For one visit it is
--- enough that picking uses these slots throughout, and that the thread is hard and active.
+-- `bound` wrote the line of a number of cycles. Some path through the section costs that number. No
+-- visit of the section takes longer if it keeps the stated loop bounds. This holds in every run of
+-- every machine whose setup keeps the rules, as each accepted one does. The words that the section
+-- can reach must be the same. During the visit picking must use the setup's slots, with the thread
+-- hard and active. Corollaries.antt has simpler premises.
 pub record IsLongest (p : Program) (i : ℕ) (section : Section)
     (before after : Option (List ℕ)) : Type 0 where
   pub cycles : ℕ
   pub wrote : Appends before after (bound_text cycles)
+  pub accepted : IsTree (section_tree p section)
   pub met : IsBound (course (section_tree p section) p.setup.slots i) cycles
   pub longest : (m : Machine) (n : ℕ) → KeepsRules m.setup →
-      IsAlike m i p.setup.slots p.image section → IsQuiet m n →
-      (last : Issued) (earlier : List Issued) → IsVisit (graph (section_tree p section))
-      (issues m i n) last earlier → KeepsBounds (section_tree p section).loops last earlier →
-      last.cycle - (first_of last earlier).cycle ≤ cycles
-  pub while_scheduled : (m : Machine) (n : ℕ) → KeepsRules m.setup → StartsHard m i p.setup.slots →
-      HasSameWords m (section_tree p section) p.image → KeepsScheduling m n →
-      (last : Issued) (earlier : List Issued) → IsVisit (graph (section_tree p section))
-      (issues m i n) last earlier → KeepsBounds (section_tree p section).loops last earlier →
-      last.cycle - (first_of last earlier).cycle ≤ cycles
-  pub in_settings : (m : Machine) (n : ℕ) → KeepsRules m.setup →
       HasSameWords m (section_tree p section) p.image → (last : Issued) (earlier : List Issued) →
       Throughout (IsSetIn m i p.setup.slots n) (first_of last earlier).cycle last.cycle →
       IsVisit (graph (section_tree p section)) (issues m i n) last earlier →
@@ -125,32 +96,18 @@ BoundsVisits _ files before after = Unit {0}
 
 -- `calls` wrote the line of a number of cycles. Some path with matching calls and returns through
 -- the section and its routines, which keeps the loops' bounds, costs that number. No call visit of
--- the section takes longer if its returns match its calls and it keeps the stated loop bounds. This
--- holds in every quiet run of every machine whose setup keeps the rules, as each accepted one does.
--- The thread must be hard, and the slots and the words in all reached functions the same. As for
--- `bound`, less is enough.
+-- the section takes longer if its returns match its calls and it keeps the stated loop bounds. The
+-- premises are those of `bound`, for the words of all reached functions.
 pub record IsLongestByCalls (p : Program) (i : ℕ) (section : Section) (file : List ℕ)
     (before after : Option (List ℕ)) : Type 0 where
   pub routines : List Routine
   pub listed : routines_of (size_of p.setup.version) file ≡ Ok routines
   pub cycles : ℕ
   pub wrote : Appends before after (bound_text cycles)
+  pub listing : IsListing (calls (section_listing p section routines))
+  pub accepted : IsCallable (calls (section_listing p section routines))
   pub met : IsCallBound (route (calls (section_listing p section routines)) p.setup.slots i) cycles
   pub longest : (m : Machine) (n : ℕ) → KeepsRules m.setup →
-      IsAlikeInParts m i p.setup.slots (calls (section_listing p section routines)) →
-      IsQuiet m n → (last : Issued) (earlier : List Issued) →
-      IsCallVisit (calls (section_listing p section routines)) (issues m i n) last earlier →
-      KeepsReturns (calls (section_listing p section routines)) last earlier →
-      KeepsCallBounds (calls (section_listing p section routines)) last earlier →
-      last.cycle - (first_of last earlier).cycle ≤ cycles
-  pub while_scheduled : (m : Machine) (n : ℕ) → KeepsRules m.setup → StartsHard m i p.setup.slots →
-      HasSameWordsOfParts m (calls (section_listing p section routines)) → KeepsScheduling m n →
-      (last : Issued) (earlier : List Issued) →
-      IsCallVisit (calls (section_listing p section routines)) (issues m i n) last earlier →
-      KeepsReturns (calls (section_listing p section routines)) last earlier →
-      KeepsCallBounds (calls (section_listing p section routines)) last earlier →
-      last.cycle - (first_of last earlier).cycle ≤ cycles
-  pub in_settings : (m : Machine) (n : ℕ) → KeepsRules m.setup →
       HasSameWordsOfParts m (calls (section_listing p section routines)) →
       (last : Issued) (earlier : List Issued) →
       Throughout (IsSetIn m i p.setup.slots n) (first_of last earlier).cycle last.cycle →

@@ -5,6 +5,8 @@ pub mod Requests
 pub mod Endings
 pub mod Prepared
 pub mod Headline
+pub mod Outcome
+pub mod Corollaries
 pub mod ProgramRules
 pub use Rattle.ask_words.specs.Commands
 pub use Rattle.ask_words.specs.Limits
@@ -66,6 +68,7 @@ pub use Rattle.section_visits.specs.CallVisitBound
 pub use Rattle.section_visits.specs.CallVisits
 pub use Rattle.section_visits.specs.CallsInSettings
 pub use Rattle.section_visits.specs.InSettings
+pub use Rattle.section_visits.specs.Premises
 pub use Rattle.section_visits.specs.SetupCallVisitBound
 pub use Rattle.section_visits.specs.SetupInSettings
 pub use Rattle.section_visits.specs.SetupVisitBound

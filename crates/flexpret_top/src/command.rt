@@ -1,33 +1,18 @@
 //! The command over files, a sink and the ports.
 
-ghost use Rattle.std.specs.Prelude.{◌≡◌, ◌≢◌, ◌⊎◌, ◌<◌, ◌≤◌, None, Some, IfSome};
-ghost use Rattle.std.specs.Prelude.{IsSomeAnd, map, string_bytes, vec_len};
-ghost use Rattle.fp_io.specs.Causes.{Rose};
+ghost use Rattle.std.specs.Prelude.{◌≡◌, ◌≢◌, ◌⊎◌, ◌≤◌, map, string_bytes, vec_len};
 ghost use Rattle.fp_ports.specs.PluggedPorts.{rows_of};
 ghost use Rattle.fp_elf.specs.Law.{ReadsBack};
 ghost use Rattle.fp_setup.specs.AcceptedSetups.{AcceptedKeepRules};
 ghost use Rattle.run_laws.specs.RetiredTraces.{RetiredTraceAlone, RetiredTraceByPhases};
-ghost use Rattle.run_laws.specs.TraceLaws.{TraceAlone, TraceByPhases};
-ghost use Rattle.section_visits.specs.SetupCallVisitBound.{CallVisitsStayBounded};
 ghost use Rattle.section_visits.specs.SetupInSettings.{CallVisitsStayBoundedInSettings};
-ghost use Rattle.section_visits.specs.SetupInSettings.{CallVisitsStayBoundedWhileScheduled};
 ghost use Rattle.section_visits.specs.SetupInSettings.{VisitsStayBoundedInSettings};
-ghost use Rattle.section_visits.specs.SetupInSettings.{VisitsStayBoundedWhileScheduled};
-ghost use Rattle.section_visits.specs.SetupVisitBound.{VisitsStayBounded};
 ghost use Rattle.ask_words.specs.Commands.{ask};
 ghost use Rattle.ask_words.specs.Limits.{IsWithinLimits};
-ghost use Rattle.command_files.specs.Answer.Answer.{Missing};
-ghost use Rattle.flexpret_top.specs.Command.{IsAnswer, IsAnswerIn, UsesNoPort, UsesNoPortBy};
-ghost use Rattle.flexpret_top.specs.Command.{Leaves, LeavesBy, LeavesCutShort, LeavesUnrun};
-ghost use Rattle.flexpret_top.specs.Command.{OnlyReads, OnlyReadsBy, Said, Began, Answered};
-ghost use Rattle.flexpret_top.specs.Headline.{BoundsCallVisits, BoundsVisits};
-ghost use Rattle.flexpret_top.specs.Headline.{WritesAlone, WritesAsRun, WritesByPhases};
-ghost use Rattle.flexpret_top.specs.Headline.{WritesImage, WritesRetired};
-ghost use Rattle.flexpret_top.specs.Requests.{IsAsked, IsAskedBy, LacksFirst, LacksFirstBy};
-ghost use Rattle.command_files.specs.Status.{IsStatus, number_of};
+ghost use Rattle.command_files.specs.Status.{number_of};
 ghost use Rattle.command_files.specs.declared.stop.Stop.{Stop};
-ghost use Rattle.command_files.specs.Answer.{status_of};
 ghost use Rattle.flexpret_top.specs.Endings.{Ends};
+ghost use Rattle.flexpret_top.specs.Outcome.{Outcome, state};
 
 use crate::deliver::deliver;
 use crate::prepare::prepare;
@@ -37,12 +22,8 @@ use fp_elf::reads_back;
 use fp_io::{Files, PutFailed, Sink};
 use fp_ports::Ports;
 use fp_setup::accepted_keep_rules;
-use run_laws::retired_traces;
-use run_laws::setup_traces::{traces_alone, traces_by_phases};
-use section_visits::setups::{
-    calls_stay_bounded, calls_stay_bounded_in_settings, calls_stay_bounded_while_scheduled,
-    stays_bounded, stays_bounded_in_settings, stays_bounded_while_scheduled,
-};
+use run_laws::retired_traces::{traces_alone, traces_by_phases};
+use section_visits::setups::{calls_stay_bounded_in_settings, stays_bounded_in_settings};
 use std::alloc::Global;
 use trace_print::{Refusal, refusal_line};
 
@@ -98,48 +79,15 @@ fn answer<F: Files, K: Sink>(
 ) -> Status
     requires limits { IsWithinLimits ask.now }
     requires eight { vec_len ports.old ≡ 8 }
-    ensures told { F.told files.new ≡ F.told files.old }
-    ensures requests { IsAsked ask.now (F.told files.old)
-        (F.requests files.old) (F.requests files.new) }
-    ensures counted_files { F.faults files.old ≤ F.faults files.new }
-    ensures counted_out { K.faults out.old ≤ K.faults out.new }
-    ensures said { result ≢ Status.Read → result ≢ Status.Write
-        → result ≢ Status.NoMemory → IfSome (F.told files.old) (λ told.
-        Said (IsAnswerIn ask.now (rows_of latched word_at ports.old.items) told)
-        (number_of result) (K.taken out.old) (K.taken out.new)) }
-    ensures read { result ≡ Status.Read → Rose (F.faults files.old) (F.faults files.new) ⊎
-        IsSomeAnd (F.told files.old) (λ told.
-        IsAnswerIn ask.now (rows_of latched word_at ports.old.items) told Missing) }
-    ensures missing { LacksFirst F.looks_first ask.now (F.told files.old) → result ≡ Status.Read }
-    ensures write { result ≡ Status.Write → Rose (K.faults out.old) (K.faults out.new) }
-    ensures front { result ≡ Status.Write → IfSome (F.told files.old) (λ told.
-        Began (IsAnswerIn ask.now (rows_of latched word_at ports.old.items) told)
-        (K.taken out.old) (K.taken out.new)) }
-    ensures complete { ¬ Rose (F.faults files.old) (F.faults files.new) →
-        ¬ Rose (K.faults out.old) (K.faults out.new) →
-        IfSome (F.told files.old) (λ told. (result ≡ Status.NoMemory) ⊎
-        Answered (IsAnswerIn ask.now (rows_of latched word_at ports.old.items) told)
-        (number_of result)) }
-    ensures asked { result ≢ Status.Usage }
-    ensures nothing { (result ≡ Status.Read) ⊎ (result ≡ Status.NoMemory)
-        → out.new ≡ out.old }
-    ensures ports { result ≡ Status.Ok → IfSome (F.told files.old) (λ told. Leaves ask.now told
-        (rows_of latched word_at ports.old.items) (rows_of latched word_at ports.new.items)) }
-    ensures part { result ≡ Status.Write → IfSome (F.told files.old) (λ told.
-        LeavesCutShort (Some ask.now) told
-        (rows_of latched word_at ports.old.items) (rows_of latched word_at ports.new.items)) }
-    ensures unrun { result ≡ Status.NoMemory → IfSome (F.told files.old) (λ told.
-        LeavesUnrun (Some ask.now) told
-        (rows_of latched word_at ports.old.items) (rows_of latched word_at ports.new.items)) }
-    ensures kept { result ≢ Status.Ok → result ≢ Status.Differs
-        → result ≢ Status.Write → result ≢ Status.NoMemory → ports.new ≡ ports.old }
-    ensures reads { OnlyReads ask.now →
-        rows_of latched word_at ports.new.items ≡ rows_of latched word_at ports.old.items }
-    ensures differs { result ≡ Status.Differs →
-        rows_of latched word_at ports.new.items ≡ rows_of latched word_at ports.old.items }
-    ensures apart { UsesNoPort ask.now → ports.new ≡ ports.old }
+    ensures outcome { Outcome F.looks_first (Some ask.now)
+        (state F.Files K.Sink files.old out.old ports.old
+        (rows_of latched word_at ports.old.items))
+        (state F.Files K.Sink files.new out.new ports.new
+        (rows_of latched word_at ports.new.items))
+        (number_of result) }
     ensures eight { vec_len ports.new ≡ 8 }
 {
+    theorems();
     match prepare(alloc, ask, files, ports) {
         Ok(prepared) => match deliver(prepared, ports, out) {
             Ok(()) => Status::Ok,
@@ -151,30 +99,18 @@ fn answer<F: Files, K: Sink>(
 
 /// The theorems for the contract: one thread's trace and visits don't depend on the other threads'
 /// code, an accepted setup keeps the rules, and the image of an executable reads back.
-fn laws()
+fn theorems()
     ensures rules { AcceptedKeepRules }
-    ensures alone { TraceAlone }
-    ensures phased { TraceByPhases }
-    ensures retired { RetiredTraceAlone }
-    ensures retired_phased { RetiredTraceByPhases }
-    ensures visits { VisitsStayBounded }
-    ensures visits_scheduled { VisitsStayBoundedWhileScheduled }
-    ensures visits_in_settings { VisitsStayBoundedInSettings }
-    ensures call_visits { CallVisitsStayBounded }
-    ensures call_visits_scheduled { CallVisitsStayBoundedWhileScheduled }
-    ensures call_visits_in_settings { CallVisitsStayBoundedInSettings }
+    ensures by_view { RetiredTraceAlone }
+    ensures by_phases { RetiredTraceByPhases }
+    ensures visits { VisitsStayBoundedInSettings }
+    ensures call_visits { CallVisitsStayBoundedInSettings }
     ensures imported { ReadsBack }
 {
     accepted_keep_rules();
     traces_alone();
     traces_by_phases();
-    retired_traces::traces_alone();
-    retired_traces::traces_by_phases();
-    stays_bounded();
-    stays_bounded_while_scheduled();
     stays_bounded_in_settings();
-    calls_stay_bounded();
-    calls_stay_bounded_while_scheduled();
     calls_stay_bounded_in_settings();
     reads_back();
 }
@@ -221,73 +157,14 @@ pub fn flexpret<F: Files, K: Sink>(
     ports: &mut Ports,
 ) -> u8
     requires { vec_len ports.old ≡ 8 }
-    ensures usage { result ≡ 2 → ask (map string_bytes words.now) ≡ None }
-    ensures asks { ask (map string_bytes words.now) ≡ None → (result ≡ 2) ⊎ (result ≡ 9) }
-    ensures untouched { ask (map string_bytes words.now) ≡ None → files.new ≡ files.old }
-    ensures requests { IsAskedBy (ask (map string_bytes words.now)) (F.told files.old) result
-        (F.requests files.old) (F.requests files.new) }
-    ensures said { result ≢ 7 → result ≢ 8 → result ≢ 9
-        → IfSome (F.told files.old) (λ told.
-        Said (IsAnswer (map string_bytes words.now) told (rows_of latched word_at ports.old.items))
-        result (K.taken out.old) (K.taken out.new)) }
-    ensures read { result ≡ 7 → Rose (F.faults files.old) (F.faults files.new) ⊎
-        IsSomeAnd (F.told files.old) (λ told. IsAnswer (map string_bytes words.now) told
-        (rows_of latched word_at ports.old.items) Missing) }
-    ensures missing { LacksFirstBy F.looks_first (ask (map string_bytes words.now))
-        (F.told files.old) → (result ≡ 7) ⊎ ((result ≡ 9) × (files.new ≡ files.old)) }
-    ensures write { result ≡ 8 → Rose (K.faults out.old) (K.faults out.new) }
-    ensures front { result ≡ 8 → IfSome (F.told files.old) (λ told.
-        Began (IsAnswer (map string_bytes words.now) told (rows_of latched word_at ports.old.items))
-        (K.taken out.old) (K.taken out.new)) }
-    ensures statuses { IsStatus result }
-    ensures complete { ¬ Rose (F.faults files.old) (F.faults files.new) →
-        ¬ Rose (K.faults out.old) (K.faults out.new) →
-        IfSome (F.told files.old) (λ told. (result ≡ 9) ⊎
-        Answered (IsAnswer (map string_bytes words.now) told
+    ensures outcome { Outcome F.looks_first (ask (map string_bytes words.now))
+        (state F.Files K.Sink files.old out.old ports.old
         (rows_of latched word_at ports.old.items))
-        result) }
-    ensures nothing { (result ≡ 2) ⊎ ((result ≡ 7) ⊎ (result ≡ 9))
-        → out.new ≡ out.old }
-    ensures counted_files { F.faults files.old ≤ F.faults files.new }
-    ensures counted_out { K.faults out.old ≤ K.faults out.new }
-    ensures told { F.told files.new ≡ F.told files.old }
-    ensures alone { result ≡ 0 → IfSome (F.told files.old) (λ told.
-        WritesAlone (ask (map string_bytes words.now)) told
-        (rows_of latched word_at ports.old.items) (K.taken out.old) (K.taken out.new)) }
-    ensures phased { result ≡ 0 → IfSome (F.told files.old) (λ told.
-        WritesByPhases (ask (map string_bytes words.now)) told
-        (rows_of latched word_at ports.old.items) (K.taken out.old) (K.taken out.new)) }
-    ensures retired { result ≡ 0 → IfSome (F.told files.old) (λ told.
-        WritesRetired (ask (map string_bytes words.now)) told
-        (rows_of latched word_at ports.old.items) (K.taken out.old) (K.taken out.new)) }
-    ensures visits { result ≡ 0 → IfSome (F.told files.old) (λ told.
-        BoundsVisits (ask (map string_bytes words.now)) told (K.taken out.old) (K.taken out.new)) }
-    ensures call_visits { result ≡ 0 → IfSome (F.told files.old) (λ told.
-        BoundsCallVisits (ask (map string_bytes words.now)) told
-        (K.taken out.old) (K.taken out.new)) }
-    ensures imported { result ≡ 0 → IfSome (F.told files.old) (λ told.
-        WritesImage (ask (map string_bytes words.now)) told (K.taken out.old) (K.taken out.new)) }
-    ensures ports { result ≡ 0 → IfSome (F.told files.old) (λ told.
-        LeavesBy (ask (map string_bytes words.now)) told
-        (rows_of latched word_at ports.old.items) (rows_of latched word_at ports.new.items)) }
-    ensures kept { 2 ≤ result → result ≢ 8 → result ≢ 9 → ports.new ≡ ports.old }
-    ensures part { result ≡ 8 → IfSome (F.told files.old) (λ told.
-        LeavesCutShort (ask (map string_bytes words.now)) told
-        (rows_of latched word_at ports.old.items) (rows_of latched word_at ports.new.items)) }
-    ensures unrun { result ≡ 9 → IfSome (F.told files.old) (λ told.
-        LeavesUnrun (ask (map string_bytes words.now)) told
-        (rows_of latched word_at ports.old.items) (rows_of latched word_at ports.new.items)) }
-    ensures reads { OnlyReadsBy (ask (map string_bytes words.now)) →
-        rows_of latched word_at ports.new.items ≡ rows_of latched word_at ports.old.items }
-    ensures differs { result ≡ 1 →
-        rows_of latched word_at ports.new.items ≡ rows_of latched word_at ports.old.items }
-    ensures as_run { result ≡ 0 → IfSome (F.told files.old) (λ told.
-        WritesAsRun (ask (map string_bytes words.now)) told
-        (rows_of latched word_at ports.old.items) (K.taken out.old) (K.taken out.new)) }
-    ensures apart { UsesNoPortBy (ask (map string_bytes words.now)) → ports.new ≡ ports.old }
+        (state F.Files K.Sink files.new out.new ports.new
+        (rows_of latched word_at ports.new.items))
+        result }
     ensures eight { vec_len ports.new ≡ 8 }
 {
-    laws();
     match read_words(alloc, words) {
         Ok(ask) => answer(alloc, &ask, files, out, ports).number(),
         Err(WordsNo::Usage) => Status::Usage.number(),

@@ -7,16 +7,23 @@
 
 mod alone;
 mod command;
+mod corollaries;
 mod deliver;
+mod file_commands;
+mod machine_commands;
 mod prepare;
 mod ready;
 mod rules;
 mod shown;
+mod view_commands;
 
 pub use ask_words::{Ask, WordsNo, read_words};
 pub use command::flexpret;
 pub use command_files::Status;
 pub use core_model::{has_own_turns, tells_picks, unretired_is_unseen};
+pub use corollaries::{
+    bounds_by_phases, bounds_while_quiet, bounds_while_scheduled, isolates_in_quiet_runs,
+};
 pub use fp_io::{
     FetchFault, Files, Gathered, MemFiles, MemSink, OutSink, PutFailed, RealFiles, Sink,
 };

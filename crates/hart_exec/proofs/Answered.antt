@@ -22,8 +22,8 @@ use Rattle.trap_unit.specs.declared.unit.CsrNo.TheVariants.{BadValue}
 use Rattle.trap_unit.specs.Access.{answer_by, done_with, guard_after, sched_after, traps_after}
 use Rattle.trap_unit.specs.Rows.{with_trap}
 use Rattle.hart_exec.specs.declared.hart.Hart.{Hart}
-use Rattle.hart_exec.specs.declared.outcome.ExecResult.{ExecResult}
-use Rattle.hart_exec.specs.Units.{Refines, Units, abstract_result}
+use Rattle.hart_exec.specs.declared.result.ExecResult.{ExecResult}
+use Rattle.hart_exec.specs.Units.{RefinesExecution, Units, abstract_result}
 use Rattle.hart_exec.specs.Units.{own_of, row_of, units_after, units_of}
 use Rattle.hart_exec.proofs.Left.{left, sleep_kept, timers_kept}
 
@@ -189,7 +189,7 @@ pub wrote_csr : (h g : Hart) (x : ExecResult) (d : Execution) (pc w rd csr value
     } →
     g.timers.now ≡ h.timers.now → g.traps.now ≡ traps_after h.traps.now h.thread csr (Some value) →
     g.sched.now ≡ sched_after h.sched.now csr (Some value) →
-    g.guard.now ≡ guard_after h.guard.now csr (Some value) → Refines h g x d
+    g.guard.now ≡ guard_after h.guard.now csr (Some value) → RefinesExecution h g x d
 wrote_csr h g x d pc w rd csr value old d_is x_is timers traps sched guard =
     let t = own_of h in
     rw (d_is, x_is) (record {
@@ -210,7 +210,7 @@ wrote_csr h g x d pc w rd csr value old d_is x_is timers traps sched guard =
 pub refused : (h k g : Hart) (x : ExecResult) (d : Execution) (pc w : ℕ) →
     d ≡ trapped pc (own_of h) w cause_illegal → k.thread ≡ h.thread → k.timers.now ≡ h.timers.now →
     k.traps.now ≡ h.traps.now → k.sched.now ≡ h.sched.now → k.guard.now ≡ h.guard.now →
-    Refines k g x (trapped pc (own_of k) w cause_illegal) → Refines h g x d
+    RefinesExecution k g x (trapped pc (own_of k) w cause_illegal) → RefinesExecution h g x d
 refused h k g x d pc w d_is thread timers traps sched guard r =
     rw d_is (record {
       did =
@@ -231,9 +231,10 @@ refused h k g x d pc w d_is thread timers traps sched guard r =
 pub read_csr : (h g : Hart) (x : ExecResult) (d : Execution) (pc w lag rd old : ℕ) →
     d ≡ write pc (own_of h) w redirect_lag rd old → lag ≡ redirect_lag →
     g.timers.now ≡ h.timers.now → g.traps.now ≡ h.traps.now → g.sched.now ≡ h.sched.now →
-    g.guard.now ≡ h.guard.now → Refines h h x (write pc (own_of h) w lag rd old) → Refines h g x d
+    g.guard.now ≡ h.guard.now → RefinesExecution h h x (write pc (own_of h) w lag rd old) →
+    RefinesExecution h g x d
 read_csr h g x d pc w lag rd old d_is lag_is timers traps sched guard r =
     let same : units_of g ≡ units_of h =
     λ j. record { timers = timers j; traps = traps j; sched = sched j; guard = guard j } in
-    let read : Refines h h x d = rw (d_is, ← lag_is) r in
+    let read : RefinesExecution h h x d = rw (d_is, ← lag_is) r in
     record { did = read.did; units = same ∙ read.units }

@@ -10,7 +10,7 @@ use Rattle.slot_scheduler.specs.declared.picking.Sched.{Sched}
 use Rattle.core_model.specs.declared.own.Own.{Own}
 use Rattle.core_model.specs.Thread.{Execution, reg_effect}
 use Rattle.hart_exec.specs.declared.hart.Hart.{Hart}
-use Rattle.hart_exec.specs.declared.outcome.ExecResult.{ExecResult}
+use Rattle.hart_exec.specs.declared.result.ExecResult.{ExecResult}
 use Rattle.hart_exec.specs.Units.{RefinesInPlace, abstract_result, guard_by}
 use Rattle.hart_exec.specs.Units.{own_of, sched_by, units_after, units_of}
 

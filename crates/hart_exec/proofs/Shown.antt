@@ -10,9 +10,9 @@ use Rattle.core_model.specs.Thread.{Environment, Execution}
 use Rattle.core_model.specs.Traps.{unless_trap}
 use Rattle.core_model.specs.Issue.{execute_untrapped, run_at}
 use Rattle.hart_exec.specs.Effects.{HasWord}
-use Rattle.hart_exec.specs.Units.{Refines, Units, units_after, units_of}
+use Rattle.hart_exec.specs.Units.{RefinesExecution, Units, units_after, units_of}
 use Rattle.hart_exec.specs.declared.hart.Hart.{Hart}
-use Rattle.hart_exec.specs.declared.outcome.ExecResult.{ExecResult}
+use Rattle.hart_exec.specs.declared.result.ExecResult.{ExecResult}
 use Rattle.hart_exec.proofs.Zero.{shown}
 
 word-shown : (e : Option Effect) (word : ℕ) → word ≢ 0 → HasWord e word
@@ -38,7 +38,7 @@ run-shown a pc t w x y e h = go (result_of (ins w) pc x y).trap refl h
 -- if there is a result
 pub some-shown : (a : Environment) (h g : Hart) (t : Own) (pc w x y : ℕ) (d : Execution)
     (r : Option ExecResult) → d.effect ≡ (run_at a pc t w x y (ins w)).effect →
-    IfSome r (λ e. Refines h g e d) → IfSome r (λ e. e.word ≡ w) →
+    IfSome r (λ e. RefinesExecution h g e d) → IfSome r (λ e. e.word ≡ w) →
     IfSome r (λ e. HasWord e.effect e.word)
 some-shown a h g t pc w x y d None is did same = tt
 some-shown a h g t pc w x y d (Some e) is did same =
@@ -52,7 +52,7 @@ same-units m n d e a b x y thread before after is left = rw (thread, before, aft
 -- a result refines the same of harts with the same thread and units
 pub carried : (h g k l : Hart) (r : Option ExecResult) (d e : Execution) →
     k.thread ≡ h.thread → units_of k ≡ units_of h → units_of l ≡ units_of g → e ≡ d →
-    IfSome r (λ x. Refines h g x d) → IfSome r (λ x. Refines k l x e)
+    IfSome r (λ x. RefinesExecution h g x d) → IfSome r (λ x. RefinesExecution k l x e)
 carried h g k l None d e thread before after is did = tt
 carried h g k l (Some x) d e thread before after is did =
     record {

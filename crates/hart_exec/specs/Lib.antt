@@ -1,4 +1,5 @@
 pub mod Effects
+pub mod Results
 pub mod Units
 pub use Rattle.core_model.specs.Csr
 pub use Rattle.core_model.specs.Issue

@@ -14,7 +14,7 @@ use Rattle.core_model.specs.Thread.{Environment, Execution}
 use Rattle.trap_unit.specs.Access.{shared_value, sched_after, guard_after}
 use Rattle.trap_unit.specs.Rows.{trap_of}
 use Rattle.hart_exec.specs.declared.hart.Hart.{Hart}
-use Rattle.hart_exec.specs.declared.outcome.ExecResult.{ExecResult}
+use Rattle.hart_exec.specs.declared.result.ExecResult.{ExecResult}
 
 -- the units as plain values
 pub record Units : Type 0 where
@@ -83,13 +83,13 @@ abstract_result own x =
     }
 
 -- an executed instruction refines the defined one, in its result and in the units after it
-pub record Refines (before after : Hart) (x : ExecResult) (d : Execution) : Type 0 where
+pub record RefinesExecution (before after : Hart) (x : ExecResult) (d : Execution) : Type 0 where
   pub did : abstract_result d.own x ≡ d
   pub units : units_of after ≡ units_after before.thread d (units_of before)
 
 -- it does so and changes no unit, whatever the units are
 abbrev pub RefinesInPlace : ExecResult → (Own → Execution) → Type 0
-RefinesInPlace x d = (h : Hart) → Refines h h x (d (own_of h))
+RefinesInPlace x d = (h : Hart) → RefinesExecution h h x (d (own_of h))
 
 -- the same thread, time and rights, with references to the same units; the content of a unit may
 -- differ

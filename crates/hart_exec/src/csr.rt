@@ -3,12 +3,12 @@
 ghost use Rattle.std.specs.Prelude.{◌≡◌, ◌<◌, ◌%◌, false};
 ghost use Rattle.rv_decode.specs.Lag.{lag, redirect_lag};
 ghost use Rattle.core_model.specs.Csr.{csr_access};
-ghost use Rattle.hart_exec.specs.Effects.{IsPrintableEffect, IsAlignedStore};
-ghost use Rattle.hart_exec.specs.Units.{Holds, Refines, environment_of, own_of};
+ghost use Rattle.hart_exec.specs.Results.{IsPlain};
+ghost use Rattle.hart_exec.specs.Units.{Holds, RefinesExecution, environment_of, own_of};
 
 use crate::hart::Hart;
-use crate::outcome::{ExecResult, PcWord};
-use crate::parts::{advance, trap, write};
+use crate::outcomes::{advance, trap, write};
+use crate::result::{ExecResult, PcWord};
 use rv_decode::{CsrKind, Ins, lag_of};
 use rv_exec::{Effect, cause};
 use trap_unit::CsrOp;
@@ -64,14 +64,10 @@ pub fn access_csr(
     requires pc { at.pc % 4 ≡ 0 }
     requires lag { lag i.now false false ≡ redirect_lag }
     ensures holds { Holds hart.old hart.new }
-    ensures refines { Refines hart.old hart.new result (csr_access hart.old.thread at.pc
+    ensures refines { RefinesExecution hart.old hart.new result (csr_access hart.old.thread at.pc
         (own_of hart.old) at.word rd csr wanted.op wanted.operand wanted.writes
         ((environment_of hart.old).shared csr)) }
-    ensures pc { result.pc % 4 ≡ 0 }
-    ensures printable { IsPrintableEffect result.effect }
-    ensures store { IsAlignedStore result.effect }
-    ensures word { result.word ≡ at.word }
-    ensures address { result.address ≡ 0 }
+    ensures plain { IsPlain at.word result }
 {
     let answer = hart.traps.access(
         hart.sched,

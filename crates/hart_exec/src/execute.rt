@@ -8,15 +8,15 @@ ghost use Rattle.core_model.specs.Issue.{execute_untrapped, run_at, execute_in};
 ghost use Rattle.core_model.specs.Waiting.{with_armed};
 ghost use Rattle.core_model.specs.Traps.{trapped};
 ghost use Rattle.rv_exec.specs.TrapCauses.{cause_expiry};
-ghost use Rattle.hart_exec.specs.Effects.{IsPrintableEffect, IsAlignedStore, HasWord, HasTarget};
-ghost use Rattle.hart_exec.specs.Effects.{is_rare, is_frequent};
-ghost use Rattle.hart_exec.specs.Units.{Holds, Refines, environment_of, own_of, units_of};
+ghost use Rattle.hart_exec.specs.Effects.{HasWord, HasTarget, is_rare, is_frequent};
+ghost use Rattle.hart_exec.specs.Results.{IsPlain, IsWellFormed};
+ghost use Rattle.hart_exec.specs.Units.{Holds, RefinesExecution, environment_of, own_of, units_of};
 
 use crate::csr::{Access, access_csr};
 use crate::hart::Hart;
 use crate::memory::{load, store};
-use crate::outcome::{ExecResult, PcWord, Sources};
-use crate::parts::{branch_on, jump, pass, return_from_trap, trap, trap_if_rare, write};
+use crate::outcomes::{branch_on, jump, pass, return_from_trap, trap, trap_if_rare, write};
+use crate::result::{ExecResult, PcWord, Sources};
 use crate::timing::{arm, delay_until, disarm, read_high, read_low, wait_until};
 use rv_decode::{Ins, decode};
 use rv_exec::{Outcome, cause, execute};
@@ -58,13 +58,11 @@ fn execute_untrapped<const RARE: bool>(
     ensures all { RARE ≡ true → is_some result ≡ true }
     ensures left { result ≡ None → units_of hart.new ≡ units_of hart.old }
     ensures holds { Holds hart.old hart.new }
-    ensures refines { IfSome result (λ x. Refines hart.old hart.new x (execute_untrapped
+    ensures refines { IfSome result (λ x. RefinesExecution hart.old hart.new x (execute_untrapped
         (environment_of hart.old) at.pc (own_of hart.old) at.word s.a s.b o.now i.now)) }
     ensures frequent { RARE ≡ false → is_some result ≡ is_frequent i.now (execute_untrapped
         (environment_of hart.old) at.pc (own_of hart.old) at.word s.a s.b o.now i.now) }
-    ensures pc { IfSome result (λ x. x.pc % 4 ≡ 0) }
-    ensures printable { IfSome result (λ x. IsPrintableEffect x.effect) }
-    ensures store { IfSome result (λ x. IsAlignedStore x.effect) }
+    ensures fits { IfSome result (λ x. IsWellFormed x) }
     ensures word { IfSome result (λ x. x.word ≡ at.word) }
     ensures address { IfSome result (λ x. IsAligned i.now x.address) }
 {
@@ -113,14 +111,12 @@ fn run_at<const RARE: bool>(
     ensures all { RARE ≡ true → is_some result ≡ true }
     ensures left { result ≡ None → units_of hart.new ≡ units_of hart.old }
     ensures holds { Holds hart.old hart.new }
-    ensures refines { IfSome result (λ x. Refines hart.old hart.new x (run_at
+    ensures refines { IfSome result (λ x. RefinesExecution hart.old hart.new x (run_at
         (environment_of hart.old) at.pc
         (own_of hart.old) at.word s.a s.b i.now)) }
     ensures frequent { RARE ≡ false → is_some result ≡ is_frequent i.now (run_at
         (environment_of hart.old) at.pc (own_of hart.old) at.word s.a s.b i.now) }
-    ensures pc { IfSome result (λ x. x.pc % 4 ≡ 0) }
-    ensures printable { IfSome result (λ x. IsPrintableEffect x.effect) }
-    ensures store { IfSome result (λ x. IsAlignedStore x.effect) }
+    ensures fits { IfSome result (λ x. IsWellFormed x) }
     ensures word { IfSome result (λ x. x.word ≡ at.word) }
     ensures address { IfSome result (λ x. IsAligned i.now x.address) }
 {
@@ -136,14 +132,10 @@ fn run_at<const RARE: bool>(
 fn expire(hart: &mut Hart<'_>, at: PcWord) -> ExecResult
     requires { at.pc % 4 ≡ 0 }
     ensures holds { Holds hart.old hart.new }
-    ensures refines { Refines hart.old hart.new result (trapped at.pc
+    ensures refines { RefinesExecution hart.old hart.new result (trapped at.pc
         (with_armed (own_of hart.old) None) 0 cause_expiry) }
-    ensures pc { result.pc % 4 ≡ 0 }
-    ensures printable { IsPrintableEffect result.effect }
-    ensures store { IsAlignedStore result.effect }
+    ensures plain { IsPlain 0 result }
     ensures shown { HasWord result.effect result.word }
-    ensures word { result.word ≡ 0 }
-    ensures address { result.address ≡ 0 }
 {
     hart.timers.disarm(hart.thread);
     trap(hart, PcWord { word: 0, ..at }, cause::EXPIRY)
@@ -166,15 +158,13 @@ fn execute_some<const RARE: bool, LOOP>(
     ensures all { RARE ≡ true → is_some result ≡ true }
     ensures left { result ≡ None → units_of hart.new ≡ units_of hart.old }
     ensures holds { Holds hart.old hart.new }
-    ensures refines { IfSome result (λ x. Refines hart.old hart.new x (execute_in
+    ensures refines { IfSome result (λ x. RefinesExecution hart.old hart.new x (execute_in
         (environment_of hart.old) at.pc
         (own_of hart.old) expired at.word s.a s.b)) }
     ensures frequent { RARE ≡ false → is_some result ≡
         is_frequent (ins at.word) (execute_in
         (environment_of hart.old) at.pc (own_of hart.old) expired at.word s.a s.b) }
-    ensures pc { IfSome result (λ x. x.pc % 4 ≡ 0) }
-    ensures printable { IfSome result (λ x. IsPrintableEffect x.effect) }
-    ensures store { IfSome result (λ x. IsAlignedStore x.effect) }
+    ensures fits { IfSome result (λ x. IsWellFormed x) }
     ensures shown { IfSome result (λ x. HasWord x.effect x.word) }
     ensures address { IfSome result (λ x. IsAligned (ins x.word) x.address) }
 {
@@ -202,15 +192,13 @@ pub fn execute_frequent<LOOP>(
     requires { at.pc % 4 ≡ 0 }
     ensures left { result ≡ None → units_of hart.new ≡ units_of hart.old }
     ensures holds { Holds hart.old hart.new }
-    ensures refines { IfSome result (λ x. Refines hart.old hart.new x (execute_in
+    ensures refines { IfSome result (λ x. RefinesExecution hart.old hart.new x (execute_in
         (environment_of hart.old) at.pc
         (own_of hart.old) expired at.word s.a s.b)) }
     ensures frequent { is_some result ≡
         is_frequent (ins at.word) (execute_in
         (environment_of hart.old) at.pc (own_of hart.old) expired at.word s.a s.b) }
-    ensures pc { IfSome result (λ x. x.pc % 4 ≡ 0) }
-    ensures printable { IfSome result (λ x. IsPrintableEffect x.effect) }
-    ensures store { IfSome result (λ x. IsAlignedStore x.effect) }
+    ensures fits { IfSome result (λ x. IsWellFormed x) }
     ensures shown { IfSome result (λ x. HasWord x.effect x.word) }
     ensures address { IfSome result (λ x. IsAligned (ins x.word) x.address) }
 {
@@ -225,11 +213,9 @@ pub fn execute_frequent<LOOP>(
 pub fn execute_in<LOOP>(hart: &mut Hart<'_>, at: PcWord, expired: bool, s: Sources) -> ExecResult
     requires { at.pc % 4 ≡ 0 }
     ensures holds { Holds hart.old hart.new }
-    ensures refines { Refines hart.old hart.new result (execute_in (environment_of hart.old) at.pc
-        (own_of hart.old) expired at.word s.a s.b) }
-    ensures pc { result.pc % 4 ≡ 0 }
-    ensures printable { IsPrintableEffect result.effect }
-    ensures store { IsAlignedStore result.effect }
+    ensures refines { RefinesExecution hart.old hart.new result (execute_in
+        (environment_of hart.old) at.pc (own_of hart.old) expired at.word s.a s.b) }
+    ensures fits { IsWellFormed result }
     ensures shown { HasWord result.effect result.word }
     ensures address { IsAligned (ins result.word) result.address }
 {

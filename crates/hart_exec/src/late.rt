@@ -7,8 +7,8 @@ ghost use Rattle.core_model.specs.Thread.{with_late_value};
 ghost use Rattle.hart_exec.specs.Effects.{IsPrintableEffect, IsAlignedStore};
 ghost use Rattle.core_model.specs.Issue.{late_rd, late_value};
 
-use crate::outcome::Sources;
-use crate::parts::write_to;
+use crate::outcomes::write_to;
+use crate::result::Sources;
 use rv_decode::Ins;
 use rv_exec::{Effect, load_value, multiply};
 

@@ -4,12 +4,12 @@ ghost use Rattle.std.specs.Prelude.{◌≡◌, ◌<◌, ◌%◌, ◌^◌, IfSome
 ghost use Rattle.rv_decode.specs.Lag.{lag, late_lag, plain_lag};
 ghost use Rattle.rv_exec.specs.Access.{load_size, store_size};
 ghost use Rattle.core_model.specs.Outcomes.{load, store};
-ghost use Rattle.hart_exec.specs.Effects.{IsPrintableEffect, IsAlignedStore};
-ghost use Rattle.hart_exec.specs.Units.{Holds, Refines, environment_of, own_of, units_of};
+ghost use Rattle.hart_exec.specs.Results.{IsWellFormed};
+ghost use Rattle.hart_exec.specs.Units.{Holds, RefinesExecution, environment_of, own_of, units_of};
 
 use crate::hart::Hart;
-use crate::outcome::{ExecResult, PcWord};
-use crate::parts::{advance, trap_if_rare};
+use crate::outcomes::{advance, trap_if_rare};
+use crate::result::{ExecResult, PcWord};
 use rv_decode::{Ins, LoadOp, StoreOp, lag_of};
 use rv_exec::{Effect, cause, load_size, store_size};
 
@@ -41,13 +41,12 @@ pub fn load<const RARE: bool>(
     ensures all { RARE ≡ true → is_some result ≡ true }
     ensures left { result ≡ None → units_of hart.new ≡ units_of hart.old }
     ensures holds { Holds hart.old hart.new }
-    ensures refines { IfSome result (λ x. Refines hart.old hart.new x (load at.pc (own_of hart.old)
-        at.word address ((environment_of hart.old).load address (load_size op)))) }
+    ensures refines { IfSome result (λ x. RefinesExecution hart.old hart.new x (load at.pc
+        (own_of hart.old) at.word address
+        ((environment_of hart.old).load address (load_size op)))) }
     ensures frequent { RARE ≡ false → is_some result
         ≡ (environment_of hart.old).load address (load_size op) }
-    ensures pc { IfSome result (λ x. x.pc % 4 ≡ 0) }
-    ensures printable { IfSome result (λ x. IsPrintableEffect x.effect) }
-    ensures store { IfSome result (λ x. IsAlignedStore x.effect) }
+    ensures fits { IfSome result (λ x. IsWellFormed x) }
     ensures word { IfSome result (λ x. x.word ≡ at.word) }
     ensures address { IfSome result (λ x. x.address % load_size op ≡ 0) }
 {
@@ -80,14 +79,12 @@ pub fn store<const RARE: bool>(
     ensures all { RARE ≡ true → is_some result ≡ true }
     ensures left { result ≡ None → units_of hart.new ≡ units_of hart.old }
     ensures holds { Holds hart.old hart.new }
-    ensures refines { IfSome result (λ x. Refines hart.old hart.new x (store at.pc (own_of hart.old)
-        at.word address (store_size op) (value % 256 ^ store_size op)
+    ensures refines { IfSome result (λ x. RefinesExecution hart.old hart.new x (store at.pc
+        (own_of hart.old) at.word address (store_size op) (value % 256 ^ store_size op)
         ((environment_of hart.old).store address (store_size op)))) }
     ensures frequent { RARE ≡ false → is_some result
         ≡ (environment_of hart.old).store address (store_size op) }
-    ensures pc { IfSome result (λ x. x.pc % 4 ≡ 0) }
-    ensures printable { IfSome result (λ x. IsPrintableEffect x.effect) }
-    ensures store { IfSome result (λ x. IsAlignedStore x.effect) }
+    ensures fits { IfSome result (λ x. IsWellFormed x) }
     ensures word { IfSome result (λ x. x.word ≡ at.word) }
     ensures address { IfSome result (λ x. x.address % store_size op ≡ 0) }
 {

@@ -5,12 +5,12 @@ ghost use Rattle.rv_decode.specs.Lag.{lag, redirect_lag};
 ghost use Rattle.core_model.specs.Outcomes.{advance, write};
 ghost use Rattle.core_model.specs.Waiting.{delay, wait, with_armed, with_high};
 ghost use Rattle.rv_exec.specs.declared.outcome.Effect.TheVariants.{Nothing};
-ghost use Rattle.hart_exec.specs.Effects.{IsPrintableEffect, IsAlignedStore};
-ghost use Rattle.hart_exec.specs.Units.{Holds, Refines, RefinesInPlace, own_of};
+ghost use Rattle.hart_exec.specs.Results.{IsPlain};
+ghost use Rattle.hart_exec.specs.Units.{Holds, RefinesExecution, RefinesInPlace, own_of};
 
 use crate::hart::Hart;
-use crate::outcome::{ExecResult, PcWord};
-use crate::parts::{advance, pass, write};
+use crate::outcomes::{advance, pass, write};
+use crate::result::{ExecResult, PcWord};
 use rv_decode::{Ins, lag_of};
 use rv_exec::Effect;
 
@@ -20,14 +20,10 @@ pub fn read_low(hart: &mut Hart<'_>, at: PcWord, i: &Ins, rd: u8) -> ExecResult
     requires rd { rd < 32 }
     requires pc { at.pc % 4 ≡ 0 }
     ensures holds { Holds hart.old hart.new }
-    ensures refines { Refines hart.old hart.new result (write at.pc
+    ensures refines { RefinesExecution hart.old hart.new result (write at.pc
         (with_high (own_of hart.old) (hart.old.time / 2 ^ 32)) at.word (lag i.now false false) rd
         (hart.old.time % 2 ^ 32)) }
-    ensures pc { result.pc % 4 ≡ 0 }
-    ensures printable { IsPrintableEffect result.effect }
-    ensures store { IsAlignedStore result.effect }
-    ensures word { result.word ≡ at.word }
-    ensures address { result.address ≡ 0 }
+    ensures plain { IsPlain at.word result }
 {
     let low = hart.timers.get_low(hart.thread, hart.time);
     write(at, i, rd, low)
@@ -38,13 +34,9 @@ pub fn read_low(hart: &mut Hart<'_>, at: PcWord, i: &Ins, rd: u8) -> ExecResult
 pub fn read_high(hart: &Hart<'_>, at: PcWord, i: &Ins, rd: u8) -> ExecResult
     requires rd { rd < 32 }
     requires pc { at.pc % 4 ≡ 0 }
-    ensures refines { Refines hart.now hart.now result (write at.pc (own_of hart.now) at.word
-        (lag i.now false false) rd (own_of hart.now).timer.high) }
-    ensures pc { result.pc % 4 ≡ 0 }
-    ensures printable { IsPrintableEffect result.effect }
-    ensures store { IsAlignedStore result.effect }
-    ensures word { result.word ≡ at.word }
-    ensures address { result.address ≡ 0 }
+    ensures refines { RefinesExecution hart.now hart.now result (write at.pc (own_of hart.now)
+        at.word (lag i.now false false) rd (own_of hart.now).timer.high) }
+    ensures plain { IsPlain at.word result }
 {
     write(at, i, rd, hart.timers.get_high(hart.thread))
 }
@@ -56,11 +48,7 @@ pub fn delay_until(at: PcWord, i: &Ins, now: u64, until: u64) -> ExecResult
     requires pc { at.pc % 4 ≡ 0 }
     requires lag { lag i.now false false ≡ redirect_lag }
     ensures refines { RefinesInPlace result (λ own. delay now at.pc own at.word until) }
-    ensures pc { result.pc % 4 ≡ 0 }
-    ensures printable { IsPrintableEffect result.effect }
-    ensures store { IsAlignedStore result.effect }
-    ensures word { result.word ≡ at.word }
-    ensures address { result.address ≡ 0 }
+    ensures plain { IsPlain at.word result }
 {
     if until <= now {
         return pass(at, i);
@@ -81,13 +69,9 @@ pub fn wait_until(hart: &mut Hart<'_>, at: PcWord, i: &Ins, until: u64) -> ExecR
     requires pc { at.pc % 4 ≡ 0 }
     requires lag { lag i.now false false ≡ redirect_lag }
     ensures holds { Holds hart.old hart.new }
-    ensures refines { Refines hart.old hart.new result (wait hart.old.time at.pc
+    ensures refines { RefinesExecution hart.old hart.new result (wait hart.old.time at.pc
         (own_of hart.old) at.word until) }
-    ensures pc { result.pc % 4 ≡ 0 }
-    ensures printable { IsPrintableEffect result.effect }
-    ensures store { IsAlignedStore result.effect }
-    ensures word { result.word ≡ at.word }
-    ensures address { result.address ≡ 0 }
+    ensures plain { IsPlain at.word result }
 {
     if until <= hart.time {
         return pass(at, i);
@@ -106,13 +90,9 @@ pub fn arm(hart: &mut Hart<'_>, at: PcWord, i: &Ins, moment: u64) -> ExecResult
     requires pc { at.pc % 4 ≡ 0 }
     requires lag { lag i.now false false ≡ redirect_lag }
     ensures holds { Holds hart.old hart.new }
-    ensures refines { Refines hart.old hart.new result (advance at.pc
+    ensures refines { RefinesExecution hart.old hart.new result (advance at.pc
         (with_armed (own_of hart.old) (Some moment)) at.word redirect_lag Nothing) }
-    ensures pc { result.pc % 4 ≡ 0 }
-    ensures printable { IsPrintableEffect result.effect }
-    ensures store { IsAlignedStore result.effect }
-    ensures word { result.word ≡ at.word }
-    ensures address { result.address ≡ 0 }
+    ensures plain { IsPlain at.word result }
 {
     hart.timers.arm(hart.thread, moment);
     pass(at, i)
@@ -124,13 +104,9 @@ pub fn disarm(hart: &mut Hart<'_>, at: PcWord, i: &Ins) -> ExecResult
     requires pc { at.pc % 4 ≡ 0 }
     requires lag { lag i.now false false ≡ redirect_lag }
     ensures holds { Holds hart.old hart.new }
-    ensures refines { Refines hart.old hart.new result (advance at.pc
+    ensures refines { RefinesExecution hart.old hart.new result (advance at.pc
         (with_armed (own_of hart.old) None) at.word redirect_lag Nothing) }
-    ensures pc { result.pc % 4 ≡ 0 }
-    ensures printable { IsPrintableEffect result.effect }
-    ensures store { IsAlignedStore result.effect }
-    ensures word { result.word ≡ at.word }
-    ensures address { result.address ≡ 0 }
+    ensures plain { IsPlain at.word result }
 {
     hart.timers.disarm(hart.thread);
     pass(at, i)

@@ -14,7 +14,7 @@ use Rattle.pipe_model.specs.declared.stage_registers.Written.{Written}
 use Rattle.pipe_model.specs.Stages.{StageRegisters}
 use Rattle.pipeline_core.specs.declared.stages.Stages.{Stages}
 use Rattle.pipeline_core.specs.Abstraction.{abstract_stages, registers_in}
-use Rattle.machine.specs.declared.run.Leaving.{Leaving}
+use Rattle.machine.specs.declared.leaving.Leaving.{Leaving}
 use Rattle.machine.specs.declared.run.Run.{Run}
 use Rattle.machine.specs.declared.state.Machine.{Machine}
 use Rattle.machine.specs.Observing.{Acts, HasSeen, SawInPart, next_with, puts_with, retires}
@@ -61,41 +61,41 @@ begun_no_more start at after later x y h forth next on = absurd (omega arith)
 
 pub advanced_as : {O : Type 0} (acts : Acts O) (s : Start) (c n : ℕ) (first : O)
     (stages : Stages) (m : Machine) (rows : List (Option Row)) (now : O)
-    (told taken : Option (List ℕ)) (a b : Option Leaving) → a ≡ b →
-    Advanced acts s c n first stages m rows now told taken a →
-    Advanced acts s c n first stages m rows now told taken b
-advanced_as acts s c n first stages m rows now told taken a b same gone =
-    subst (λ (x : Option Leaving). Advanced acts s c n first stages m rows now told taken x) same
+    (prior taken : Option (List ℕ)) (a b : Option Leaving) → a ≡ b →
+    Advanced acts s c n first stages m rows now prior taken a →
+    Advanced acts s c n first stages m rows now prior taken b
+advanced_as acts s c n first stages m rows now prior taken a b same gone =
+    subst (λ (x : Option Leaving). Advanced acts s c n first stages m rows now prior taken x) same
     gone
 
 pub paused_as : {O : Type 0} {acts : Acts O} {s : Start} {c n : ℕ} {first : O}
     {p q : StageRegisters} {a b : Machine} {rows : List (Option Row)} {now : O}
-    {told taken : Option (List ℕ)} → p ≡ q → a ≡ b →
-    Pauses acts s c n first p a rows now told taken →
-    Pauses acts s c n first q b rows now told taken
-paused_as {O} {acts} {s} {c} {n} {first} {p} {q} {a} {b} {rows} {now} {told} {taken} same there
+    {prior taken : Option (List ℕ)} → p ≡ q → a ≡ b →
+    Pauses acts s c n first p a rows now prior taken →
+    Pauses acts s c n first q b rows now prior taken
+paused_as {O} {acts} {s} {c} {n} {first} {p} {q} {a} {b} {rows} {now} {prior} {taken} same there
     gone =
-    subst (λ (x : Machine). Pauses acts s c n first q x rows now told taken) there
-    (subst (λ (x : StageRegisters). Pauses acts s c n first x a rows now told taken) same gone)
+    subst (λ (x : Machine). Pauses acts s c n first q x rows now prior taken) there
+    (subst (λ (x : StageRegisters). Pauses acts s c n first x a rows now prior taken) same gone)
 
 -- the machine refines the next cycle after a cycle
-stands_after : (s : Start) (n : ℕ) (q : StageRegisters) (m after : Machine)
+refines_after : (s : Start) (n : ℕ) (q : StageRegisters) (m after : Machine)
     (rows new : List (Option Row)) (event : Option Event) →
     TicksWith s m.at n rows q after new event → after.at ≡ m.at + 1 →
     RefinesWith s after.at n q after new
-stands_after s n q m after rows new event ticked at =
+refines_after s n q m after rows new event ticked at =
     let At : ℕ → Type 0 = λ c. RefinesWith s c n q after new in
     subst At (sym (at ∙ add-one m.at)) ticked.refines
 
 -- a run begins with a machine's own stage registers
 pub runs_begin : {O : Type 0} (acts : Acts O) (s : Start) (n : ℕ) (o : O) (stages : Stages)
-    (m : Machine) (rows : List (Option Row)) (told : Option (List ℕ)) →
+    (m : Machine) (rows : List (Option Row)) (prior : Option (List ℕ)) →
     registers_in stages m.pipe.w ≡ abstract_stages m.pipe → Refines s m.at n m rows →
-    Runs acts s m.at n o stages m rows o told told
-runs_begin acts s n o stages m rows told is st = record {
+    Runs acts s m.at n o stages m rows o prior prior
+runs_begin acts s n o stages m rows prior is st = record {
   w = m.pipe.w;
   refines = subst (λ p. RefinesWith s m.at n p m rows) (sym is) st;
-  seen = seen_begins acts s m.at o told;
+  seen = seen_begins acts s m.at o prior;
 }
 
 -- skipped cycles
@@ -134,7 +134,7 @@ runs_on {O} acts s c n first stages next written m after rows new o later event 
     ap (λ e. puts_with acts o e) (sym ticked.event_is) ∙ none in
     record {
       w = written;
-      refines = stands_after s n (registers_in next written) m after rows new event ticked at;
+      refines = refines_after s n (registers_in next written) m after rows new event ticked at;
       seen =
           subst At (sym (at ∙ add-one m.at))
           (seen_on acts s c m.at first o later before now now run.seen
@@ -161,7 +161,7 @@ runs_to_put {O} acts s c n first stages q m after rows new o later event before 
     let same : event ≡ retires s (after.at - 1) =
     ticked.event_is ∙ ap (λ d. retires s d) last in
     record {
-      refines = stands_after s n q m after rows new event ticked at;
+      refines = refines_after s n q m after rows new event ticked at;
       some = omega (arith, at, low);
       last = o;
       earlier = subst At last run.seen;
@@ -287,21 +287,18 @@ stopped_given_back acts s c n first q m after rows before now is same stop =
 
 -- no cycle is to be done
 pub ran_nothing : {O : Type 0} (acts : Acts O) (s : Start) (n end : ℕ) (m : Machine)
-    (rows : List (Option Row)) (o : O) (told : Option (List ℕ)) → m.at ≡ end →
-    Refines s m.at n m rows → Refines s end n m rows × HasSeen acts s m.at end o o told told
-ran_nothing acts s n end m rows o told at st =
+    (rows : List (Option Row)) (o : O) (prior : Option (List ℕ)) → m.at ≡ end →
+    Refines s m.at n m rows → Refines s end n m rows × HasSeen acts s m.at end o o prior prior
+ran_nothing acts s n end m rows o prior at st =
     let Here : ℕ → Type 0 = λ e. Refines s e n m rows in
-    let Seen : ℕ → Type 0 = λ e. HasSeen acts s m.at e o o told told in
-    (subst Here at st, subst Seen at (seen_begins acts s m.at o told))
+    let Seen : ℕ → Type 0 = λ e. HasSeen acts s m.at e o o prior prior in
+    (subst Here at st, subst Seen at (seen_begins acts s m.at o prior))
 
 -- the same of an equal machine
 pub given_ticks : (s : Start) (c n : ℕ) (rows new : List (Option Row)) (event : Option Event)
     (a b : Machine) → Ticks s c n rows b new event → a ≡ b → Ticks s c n rows a new event
 given_ticks s c n rows new event a b ticked same =
     subst (λ (m : Machine). Ticks s c n rows m new event) (sym same) ticked
-
-pub given_at : (a b : Machine) (c : ℕ) → b.at ≡ c → a ≡ b → a.at ≡ c
-given_at a b c is same = ap (λ (m : Machine). m.at) same ∙ is
 
 pub given_seen : {O : Type 0} (acts : Acts O) (s : Start) (c n end : ℕ) (first o : O)
     (rows : List (Option Row)) (before now : Option (List ℕ)) (a b : Machine) →

@@ -17,20 +17,20 @@ pub dump_ok : (r : Result (Unit {0}) PutFailed) (before after : Option (List ℕ
     (m : Machine) (rows : List (Option Row)) → OnOk r
     (Appends before after (dump_of (abstract_stages m.pipe) (abstract_state m.units rows) m.at)) →
     OnOk r ((s : Start) (c n : ℕ) → Refines s c n m rows → Appends before after (seen s c))
-dump_ok (Ok x) before after m rows told =
+dump_ok (Ok x) before after m rows put =
     λ s c n refines.
-    let Told : List ℕ → Type 0 = λ text. Appends before after text in
-    subst Told
-    (dumps s c n (abstract_stages m.pipe) (abstract_state m.units rows) m.at m.unplugs refines) told
-dump_ok (Err e) before after m rows told = told
+    let Put : List ℕ → Type 0 = λ text. Appends before after text in
+    subst Put
+    (dumps s c n (abstract_stages m.pipe) (abstract_state m.units rows) m.at m.unplugs refines) put
+dump_ok (Err e) before after m rows put = put
 
 pub dump_err : (r : Result (Unit {0}) PutFailed) (before after : Option (List ℕ))
     (m : Machine) (rows : List (Option Row)) → OnErr r (AppendsFront before after
     (dump_of (abstract_stages m.pipe) (abstract_state m.units rows) m.at)) →
     OnErr r ((s : Start) (c n : ℕ) → Refines s c n m rows → AppendsFront before after (seen s c))
-dump_err (Ok x) before after m rows told = told
-dump_err (Err e) before after m rows told =
+dump_err (Ok x) before after m rows put = put
+dump_err (Err e) before after m rows put =
     λ s c n refines.
-    let Told : List ℕ → Type 0 = λ text. AppendsFront before after text in
-    subst Told
-    (dumps s c n (abstract_stages m.pipe) (abstract_state m.units rows) m.at m.unplugs refines) told
+    let Put : List ℕ → Type 0 = λ text. AppendsFront before after text in
+    subst Put
+    (dumps s c n (abstract_stages m.pipe) (abstract_state m.units rows) m.at m.unplugs refines) put

@@ -26,12 +26,12 @@ turn s first now after k threads t inputs of_setup there same is fed =
     (fed ∙ ap₂ (fed_words k) is (same ∙ ap (λ (x : ThreadSetup). x.inputs) (sym found)))
 
 -- the first of the next thread's inputs are fed
-pub turn_front : (s : Settings) (first now after : List (Option Row)) (k j : ℕ)
+pub turn_prefix : (s : Settings) (first now after : List (Option Row)) (k j : ℕ)
     (threads : List ThreadSetup) (t : ThreadSetup) (inputs : List Input) →
     threads ≡ s.threads → slice_get threads k ≡ Some t → inputs ≡ t.inputs →
     now ≡ fed_first s first k → after ≡ fed_words k now (take j inputs) →
     after ≡ fed_words k (fed_first s first k) (take j (thread_setup_of s k).inputs)
-turn_front s first now after k j threads t inputs of_setup there same is fed =
+turn_prefix s first now after k j threads t inputs of_setup there same is fed =
     let found : thread_setup_of s k ≡ t =
     ap (λ (xs : List ThreadSetup). get_or xs k default_thread) (sym of_setup)
     ∙ get_or_from_slice_get threads k t default_thread there in

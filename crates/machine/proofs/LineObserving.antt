@@ -155,13 +155,13 @@ text_more grows s c o zero = rw (add-zero c) (sym (append-nil (text (events s o.
 text_more grows s c o (suc k) =
     let i : ℕ = o.thread in
     let e : Option Event = retires s (c + k) in
-    let told : List ℕ = text (events s i c) in
+    let prior : List ℕ = text (events s i c) in
     let so_far : List ℕ = puts_in line_acts s c o k in
     let next : c + suc k ≡ suc (c + k) = omega arith in
     ap (λ d. text (events s i d)) next ∙ text-next grows s i (c + k) e refl
     ∙ ap (λ xs. xs ++ text (of_thread i e)) (text_more grows s c o k)
-    ∙ append_assoc told so_far (text (of_thread i e))
-    ∙ ap (λ xs. told ++ (so_far ++ xs))
+    ∙ append_assoc prior so_far (text (of_thread i e))
+    ∙ ap (λ xs. prior ++ (so_far ++ xs))
     (sym (line_bytes (observer_after line_acts s c o k) i e (thread_after s c o k)))
 
 -- a run whose lines were put has put the text of the cycles so far
@@ -172,8 +172,8 @@ lines_put : EventsGrow → (s : Start) (c d : ℕ) (first now : ThreadLines)
 lines_put grows s c d first now before between after seen put =
     let i : ℕ = first.thread in
     let there : c + (d - c) ≡ d = omega (arith, seen.low) in
-    let Told : List ℕ → Type 0 = λ xs. Appends before after xs in
-    subst Told (sym (text_more grows s c first (d - c)) ∙ ap (λ e. text (events s i e)) there)
+    let Put : List ℕ → Type 0 = λ xs. Appends before after xs in
+    subst Put (sym (text_more grows s c first (d - c)) ∙ ap (λ e. text (events s i e)) there)
     (appends_more before between after (text (events s i c))
     (puts_in line_acts s c first (d - c)) put seen.put)
 
@@ -185,11 +185,11 @@ pub lines_run : EventsGrow → (s : Start) (c d n thread : ℕ) (first : List (O
     HasRun s d n thread first later new before after
 lines_run grows s c d n thread first m later rows new o now before between after same run st seen
     left =
-    let Told : ℕ → ℕ → Option (List ℕ) → Type 0 = λ e i x. Appends before x (text (events s i e)) in
+    let Put : ℕ → ℕ → Option (List ℕ) → Type 0 = λ e i x. Appends before x (text (events s i e)) in
     record {
       put =
-          subst (λ i. Told d i after) same (lines_put grows s c d o now before between after seen
-          (subst (λ i. Told c i between) (sym same) run.put));
+          subst (λ i. Put d i after) same (lines_put grows s c d o now before between after seen
+          (subst (λ i. Put c i between) (sym same) run.put));
       refines = st;
       left = words_on first rows new run.left left;
     }
@@ -202,21 +202,21 @@ stopped_at : EventsGrow → (s : Start) (n i : ℕ) (first : List (Option Row)) 
     AppendsFront between after line → AreLeft first new →
     Stopped s n i first m new before after
 stopped_at grows s n i first m new before between after line some within is st put part left =
-    let told : List ℕ = text (events s i (m.at - 1)) in
+    let prior : List ℕ = text (events s i (m.at - 1)) in
     let there : suc (m.at - 1) ≡ m.at = omega (arith, some) in
-    let grown : text (events s i m.at) ≡ told ++ line =
+    let grown : text (events s i m.at) ≡ prior ++ line =
     ap (λ d. text (events s i d)) (sym there)
     ∙ text-next grows s i (m.at - 1) (retires s (m.at - 1)) refl
-    ∙ ap (λ xs. told ++ xs) (sym is) in
+    ∙ ap (λ xs. prior ++ xs) (sym is) in
     let (rest, goes) = text_goes_on grows s i m.at (n - m.at) in
     let end : n ≡ m.at + (n - m.at) = omega (arith, within) in
-    let whole : text (events s i n) ≡ (told ++ line) ++ rest =
+    let whole : text (events s i n) ≡ (prior ++ line) ++ rest =
     ap (λ d. text (events s i d)) end ∙ goes ∙ ap (λ xs. xs ++ rest) grown in
     let Front : List ℕ → Type 0 = λ xs. AppendsFront before after xs in
     record {
-      put = appends_front before between after told line rest (text (events s i n)) whole put part;
-      before_last = beyond before between after told line put part;
-      with_last = subst Front (sym grown) (front_after before between after told line put part);
+      put = appends_front before between after prior line rest (text (events s i n)) whole put part;
+      before_last = beyond before between after prior line put part;
+      with_last = subst Front (sym grown) (front_after before between after prior line put part);
       within = within;
       refines = st;
       left = left;
@@ -230,7 +230,7 @@ pub lines_stop : EventsGrow → (s : Start) (c n thread : ℕ) (first : List (Op
     Stopped s n thread first later new before after
 lines_stop grows s c n thread first m later rows new o before between after same within run st saw
     left =
-    let Told : ℕ → Type 0 = λ i. Appends before between (text (events s i c)) in
+    let Put : ℕ → Type 0 = λ i. Appends before between (text (events s i c)) in
     let last_thread : saw.last.thread ≡ o.thread =
     ap (λ (x : ThreadLines). x.thread) saw.earlier.is
     ∙ thread_after s c o (later.at - 1 - c) in
@@ -239,4 +239,4 @@ lines_stop grows s c n thread first m later rows new o before between after same
     (puts_with line_acts saw.last (retires s (later.at - 1))) (omega (arith, saw.some)) within
     (line_bytes saw.last o.thread (retires s (later.at - 1)) last_thread) st
     (lines_put grows s c (later.at - 1) o saw.last before between saw.between saw.earlier
-    (subst Told (sym same) run.put)) saw.part (words_on first rows new run.left left))
+    (subst Put (sym same) run.put)) saw.part (words_on first rows new run.left left))

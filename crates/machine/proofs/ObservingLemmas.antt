@@ -9,14 +9,14 @@ use Rattle.machine.specs.Observing.{retires}
 
 -- no cycle was seen so far
 pub seen_begins : {O : Type 0} (acts : Acts O) (s : Start) (c : ℕ) (o : O)
-    (told : Option (List ℕ)) → HasSeen acts s c c o o told told
-seen_begins acts s c o told =
+    (prior : Option (List ℕ)) → HasSeen acts s c c o o prior prior
+seen_begins acts s c o prior =
     let none : 0 ≡ c - c = omega arith in
-    let Told : ℕ → Type 0 = λ k. Appends told told (puts_in acts s c o k) in
+    let Put : ℕ → Type 0 = λ k. Appends prior prior (puts_in acts s c o k) in
     record {
       low = omega arith;
       is = ap (λ k. observer_after acts s c o k) none;
-      put = subst Told none (appends_nothing told);
+      put = subst Put none (appends_nothing prior);
     }
 
 -- one more cycle, whose bytes were put
@@ -35,12 +35,12 @@ seen_on {O} acts s c d first o next before between now seen is put =
     ≡ puts_in acts s c first (suc k) =
     ap₂ (λ (x : O) (e : ℕ). puts_in acts s c first k ++ puts_with acts x (retires s e)) seen.is
     there in
-    let Told : List ℕ → Type 0 = λ x. Appends before now x in
+    let Put : List ℕ → Type 0 = λ x. Appends before now x in
     record {
       low = omega (arith, low);
       is = is ∙ same ∙ ap (λ j. observer_after acts s c first j) more;
       put =
-          subst Told (bytes ∙ ap (λ j. puts_in acts s c first j) more)
+          subst Put (bytes ∙ ap (λ j. puts_in acts s c first j) more)
           (appends_more before between now (puts_in acts s c first k)
           (puts_with acts o (retires s d)) seen.put put);
     }

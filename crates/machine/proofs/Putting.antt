@@ -30,8 +30,8 @@ pub line_taken : (before between after : Option (List ℕ)) (line : ℕ → List
     Appends before between (flat_map line (range_with_len 0 k)) → Appends between after (line k) →
     Appends before after (flat_map line (range_with_len 0 (k + 1)))
 line_taken before between after line k first second =
-    let Told : List ℕ → Type 0 = λ text. Appends before after text in
-    subst Told (sym (next_line line k))
+    let Put : List ℕ → Type 0 = λ text. Appends before after text in
+    subst Put (sym (next_line line k))
     (appends_more before between after (flat_map line (range_with_len 0 k)) (line k) first second)
 
 -- a line was written in part

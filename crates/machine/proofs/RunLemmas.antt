@@ -131,11 +131,11 @@ text_goes_on grows s i c (suc more) =
     )
 
 pub run_begins : (s : Start) (n thread : ℕ) (m : Machine) (rows : List (Option Row))
-    (told : Option (List ℕ)) → Refines s 0 n m rows → HasRun s 0 n thread rows m rows told told
-run_begins s n thread m rows told st =
-    let Told : List Event → Type 0 = λ es. Appends told told (text es) in
+    (prior : Option (List ℕ)) → Refines s 0 n m rows → HasRun s 0 n thread rows m rows prior prior
+run_begins s n thread m rows prior st =
+    let Put : List Event → Type 0 = λ es. Appends prior prior (text es) in
     record {
-      put = subst Told (sym (no_events s thread)) (appends_nothing told);
+      put = subst Put (sym (no_events s thread)) (appends_nothing prior);
       refines = st;
       left = left_all rows;
     }
@@ -144,12 +144,12 @@ run_begins s n thread m rows told st =
 pub beyond : (before between now : Option (List ℕ)) (xs ys : List ℕ) → Appends before between xs →
     AppendsFront between now ys → AppendsBeyond before now xs
 beyond None between now xs ys first second = tt
-beyond (Some told) None now xs ys first second = absurd first
-beyond (Some told) (Some more) None xs ys first second = absurd second
-beyond (Some told) (Some more) (Some most) xs ys first (n, within, taken) =
+beyond (Some prior) None now xs ys first second = absurd first
+beyond (Some prior) (Some more) None xs ys first second = absurd second
+beyond (Some prior) (Some more) (Some most) xs ys first (n, within, taken) =
     (take n ys, taken ∙ ap (λ zs. zs ++ take n ys) first)
 
--- a cycle of a machine whose stage registers stood beside it
+-- a cycle of a machine by the stage registers of its run
 pub ticks_of_run : (s : Start) (n : ℕ) (stages : Stages) (m after : Machine)
     (rows new : List (Option Row)) (event retired : Option Event) →
     registers_in stages m.pipe.w ≡ abstract_stages m.pipe → event ≡ retired →

@@ -223,8 +223,8 @@ before_waking s wakes now least before thread below = go (is_active (mode_of s.m
 
 -- the run of a machine that has done no cycle
 pub run_begins_at : (s : Start) (n thread : ℕ) (m : Machine) (rows : List (Option Row))
-    (told : Option (List ℕ)) → m.at ≡ 0 → Refines s 0 n m rows →
-    HasRun s m.at n thread rows m rows told told
-run_begins_at s n thread m rows told start st =
-    let Run : ℕ → Type 0 = λ c. HasRun s c n thread rows m rows told told in
-    subst Run (sym start) (run_begins s n thread m rows told st)
+    (prior : Option (List ℕ)) → m.at ≡ 0 → Refines s 0 n m rows →
+    HasRun s m.at n thread rows m rows prior prior
+run_begins_at s n thread m rows prior start st =
+    let Run : ℕ → Type 0 = λ c. HasRun s c n thread rows m rows prior prior in
+    subst Run (sym start) (run_begins s n thread m rows prior st)

@@ -1,5 +1,5 @@
 -- The lines of a dump from the machine's fields, each by its number.
-use Rattle.std.specs.Prelude.{ℕ, ◌+◌, ◌-◌, ◌/◌, ◌%◌, ◌==◌, nat_lt, not, ◌||◌, if◌then◌else◌}
+use Rattle.std.specs.Prelude.{ℕ, ◌+◌, ◌-◌, ◌*◌, ◌/◌, ◌%◌, ◌==◌, nat_lt, not, ◌||◌, if◌then◌else◌}
 use Rattle.std.specs.Prelude.{List, [], flat_map, slice_index_or, Bool, true, codes}
 use Rattle.std.specs.List.{range_with_len}
 use Rattle.region_guard.specs.Regions.{may_fetch}
@@ -91,16 +91,23 @@ thread_line u i k =
     (slice_index_or u.control.sleeps i 0)
     else latch_text i (rows.latch_seen (rows.row_at u.ports i))
 
--- the number of the first line of the data scratchpad: ten lines of the machine and seven of each
--- thread come before it
+-- the number of lines of the machine, and of each thread
+abbrev pub head_lines : ℕ
+head_lines = 10
+
+abbrev pub thread_lines : ℕ
+thread_lines = 7
+
+-- the number of the first line of the data scratchpad, after the lines of machine and threads
 abbrev pub first_of_memory : ℕ
-first_of_memory = 66
+first_of_memory = head_lines + 8 * thread_lines
 
 -- the line with number k
 unfoldable pub dump_line : StageRegisters → State → ℕ → ℕ → List ℕ
 dump_line p u at k =
-    if nat_lt k 10 then head_line p u.size u.confined u.control.registers at k
-    else if nat_lt k first_of_memory then thread_line u ((k - 10) / 7) ((k - 10) % 7)
+    if nat_lt k head_lines then head_line p u.size u.confined u.control.registers at k
+    else if nat_lt k first_of_memory
+    then thread_line u ((k - head_lines) / thread_lines) ((k - head_lines) % thread_lines)
     else words_seen u.d_words (k - first_of_memory)
 
 -- the lines before number k
@@ -109,4 +116,4 @@ lines_before p u at k = flat_map (dump_line p u at) (range_with_len 0 k)
 
 -- the whole dump, from the fields of a machine
 abbrev pub dump_of : StageRegisters → State → ℕ → List ℕ
-dump_of p u at = lines_before p u at (66 + u.size / 32)
+dump_of p u at = lines_before p u at (first_of_memory + u.size / 32)

@@ -1,6 +1,7 @@
 pub mod DumpedState
 pub mod Fields
 pub mod FieldRelation
+pub mod MachineDump
 pub mod FieldLaws
 pub mod WorldRelation
 pub mod Observing
@@ -8,6 +9,7 @@ pub mod ThreadLines
 pub mod Unseen
 pub mod Running
 pub mod Sleeping
+pub mod OneCycle
 pub mod Feeding
 pub mod PortLaws
 pub use Rattle.core_model.specs.Cycles
@@ -24,4 +26,5 @@ pub use Rattle.rv_exec.specs.Line
 pub use Rattle.pipe_model.specs.declared.stage_registers.Held
 pub use Rattle.pipe_model.specs.declared.stage_registers.Written
 pub use Rattle.pipeline_core.specs.Abstraction
+pub use Rattle.pipeline_core.specs.Retiring
 pub use Rattle.pipeline_core.specs.Turns

@@ -25,7 +25,8 @@ abbrev pub puts_with : {O : Type 0} → Acts O → O → Option Event → List �
 puts_with acts o None = []
 puts_with acts o (Some e) = acts.puts o e
 
--- the event that retires in a cycle of a world, if there is one
+-- the event that retires in a cycle of a world, if there is one: that of the turn in m, which is
+-- three turns behind the newest one
 abbrev pub retires : Start → ℕ → Option Event
 retires s c = event_in (c - cycles_to_w) (turn_at s c 3)
 

@@ -1,7 +1,9 @@
--- A run of a machine, whose stage registers stand beside it.
-use Rattle.std.specs.Prelude.{◌≡◌, ℕ, ◌-◌, ◌<◌, List, Option, Some, None, is_some}
+-- A run of a machine: its loop over cycles works on the stage registers as the stages use them.
+use Rattle.std.specs.Prelude.{◌≡◌, ℕ, ◌+◌, ◌-◌, ◌<◌, ◌≤◌, List, Option, Some, None, is_some}
+use Rattle.std.specs.Prelude.{Result, OnOk, IfErr}
 use Rattle.std.specs.List.{list_any}
 use Rattle.fp_ports.specs.PluggedPorts.{Row}
+use Rattle.core_model.specs.Cycles.{cycles_to_m}
 use Rattle.core_model.specs.World.{Start}
 use Rattle.pipe_model.specs.Stages.{StageRegisters}
 use Rattle.pipe_model.specs.declared.stage_registers.Held.{Held}
@@ -9,11 +11,12 @@ use Rattle.pipe_model.specs.declared.stage_registers.Held.TheVariants.{Issue}
 use Rattle.pipe_model.specs.declared.stage_registers.Written.{Written}
 use Rattle.pipeline_core.specs.declared.stages.Stages.{Stages}
 use Rattle.pipeline_core.specs.Abstraction.{registers_in}
+use Rattle.pipeline_core.specs.StageFacts.{WrittenFits}
 use Rattle.machine.specs.declared.state.Machine.{Machine}
 use Rattle.machine.specs.declared.run.Run.{Run}
-use Rattle.machine.specs.declared.run.Leaving.{Leaving}
+use Rattle.machine.specs.declared.leaving.Leaving.{Leaving}
 use Rattle.machine.specs.Observing.{Acts, HasSeen, SawInPart, next_with, puts_with, retires}
-use Rattle.machine.specs.WorldRelation.{RefinesWith}
+use Rattle.machine.specs.WorldRelation.{AreLeft, RefinesWith}
 
 -- a run knows whether any port is ever removed
 abbrev pub KnowsPorts : Run → Type 0
@@ -64,3 +67,21 @@ pub record Stops {O : Type 0} (acts : Acts O) (s : Start) (c n : ℕ) (first : O
     (before after : Option (List ℕ)) : Type 0 where
   pub refines : RefinesWith s m.at n p m ports
   pub seen : SawInPart acts s c m.at first before after
+
+-- A run goes on to later stage registers, machine and ports, by cycles before `end`. Without an
+-- error it is a run as before. An error is the turn in w after the cycle of a put that failed.
+pub record RunsOn {O T : Type 0} (acts : Acts O) (end : ℕ) (result : Result T (Held Written))
+    (run later : Run) (ports left : List (Option Row)) (o now : O) (taken after : Option (List ℕ)) :
+    Type 0 where
+  pub ok : OnOk result ((s : Start) (c n : ℕ) (first : O) (before : Option (List ℕ)) →
+      end ≤ n + cycles_to_m →
+      Runs acts s c n first run.stages.now run.machine.now ports o before taken →
+      Runs acts s c n first later.stages.now later.machine.now left now before after)
+  pub err : IfErr result (λ w. (s : Start) (c n : ℕ) (first : O) (before : Option (List ℕ)) →
+      end ≤ n + cycles_to_m →
+      Runs acts s c n first run.stages.now run.machine.now ports o before taken →
+      Stops acts s c n first (registers_in later.stages.now w) later.machine.now left before after)
+  pub fits : IfErr result WrittenFits
+  pub same : IsSameRun run later
+  pub within : later.machine.now.at ≤ end
+  pub words : AreLeft ports left

@@ -1,16 +1,15 @@
 -- Cycles with no thread awake and an empty pipeline.
-use Rattle.std.specs.Prelude.{◌≡◌, ℕ, ◌-◌, ◌<◌, ◌≤◌, false, List, Option, None}
+use Rattle.std.specs.Prelude.{◌≡◌, ℕ, ◌<◌, ◌≤◌, false, List, Option, None}
 use Rattle.fp_ports.specs.PluggedPorts.{Row}
 use Rattle.slot_scheduler.specs.declared.picking.Sched.{Sched}
 use Rattle.slot_scheduler.specs.Picking.{is_awake}
 use Rattle.timer_unit.specs.Time.{time}
 use Rattle.core_model.specs.World.{Start, sched_by}
 use Rattle.pipe_model.specs.Stages.{StageRegisters, State, Ticked, step}
-use Rattle.pipe_model.specs.Relation.{event_in, turn_at}
 use Rattle.pipe_model.specs.PipelineLaws.{empty}
 use Rattle.machine.specs.declared.state.Machine.{Machine}
+use Rattle.machine.specs.Observing.{retires}
 use Rattle.machine.specs.WorldRelation.{RefinesWith}
-use Rattle.core_model.specs.Cycles.{cycles_to_w}
 
 -- no thread is awake at a time
 abbrev pub NobodyAwake : Sched → ℕ → Type 0
@@ -32,4 +31,4 @@ SleepsOn =
 pub record PassedOverWith (s : Start) (c n : ℕ) (p : StageRegisters) (m : Machine)
     (ports : List (Option Row)) : Type 0 where
   pub refines : RefinesWith s m.at n p m ports
-  pub quiet : (k : ℕ) → c ≤ k → k < m.at → event_in (k - cycles_to_w) (turn_at s k 3) ≡ None
+  pub quiet : (k : ℕ) → c ≤ k → k < m.at → retires s k ≡ None

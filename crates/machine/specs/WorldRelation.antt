@@ -16,12 +16,13 @@ use Rattle.trap_unit.specs.Rows.{no_trap}
 use Rattle.core_model.specs.World.{Start, world, events}
 use Rattle.setup_model.specs.Start.{start, thread_setup_of, i_words_of, d_words_of}
 use Rattle.pipe_model.specs.Stages.{StageRegisters, State}
-use Rattle.pipe_model.specs.Relation.{event_in, turn_at, port_words}
+use Rattle.pipe_model.specs.Relation.{port_words}
 use Rattle.pipeline_core.specs.Abstraction.{abstract_stages, abstract_state}
 use Rattle.machine.specs.FieldRelation.{FieldsRefine}
 use Rattle.machine.specs.DumpedState.{is_port_left}
+use Rattle.machine.specs.Observing.{retires}
 use Rattle.machine.specs.declared.state.Machine.{Machine}
-use Rattle.core_model.specs.Cycles.{cycles_to_m, cycles_to_w}
+use Rattle.core_model.specs.Cycles.{cycles_to_m}
 
 -- the machine with these stage registers and the ports refine cycle c of the world; its lists of
 -- shown words have n entries
@@ -52,7 +53,7 @@ AreLeft before after = (k : ℕ) → k < 8 → IsLeft (row_at before k) (row_at 
 pub record TicksWith (s : Start) (c n : ℕ) (before : List (Option Row)) (p : StageRegisters)
     (m : Machine) (ports : List (Option Row)) (event : Option Event) : Type 0 where
   pub refines : RefinesWith s (suc c) n p m ports
-  pub event_is : event ≡ event_in (c - cycles_to_w) (turn_at s c 3)
+  pub event_is : event ≡ retires s c
   pub left : AreLeft before ports
 
 -- the same with the machine's own stage registers

@@ -7,8 +7,8 @@ ghost use Rattle.fp_io.specs.Content.{AppendsFront};
 ghost use Rattle.fp_ports.specs.PluggedPorts.{rows_of};
 ghost use Rattle.core_model.specs.World.{Start};
 ghost use Rattle.machine.specs.DumpedState.{seen};
-ghost use Rattle.machine.specs.Fields.{dump_line, dump_of, first_of_memory};
-ghost use Rattle.pipeline_core.specs.Abstraction.{abstract_stages, abstract_state};
+ghost use Rattle.machine.specs.Fields.{first_of_memory};
+ghost use Rattle.machine.specs.MachineDump.{line_of, text_of};
 ghost use Rattle.machine.specs.WorldRelation.{Refines};
 
 use crate::lines::FIRST_OF_MEMORY;
@@ -43,13 +43,9 @@ impl Machine {
     fn put_lines<K: Sink>(&self, ports: &Ports, out: &mut K) -> Result<(), PutFailed>
         requires { vec_len ports.now ≡ 8 }
         ensures ok { OnOk result (Appends (K.taken out.old) (K.taken out.new)
-            (dump_of (abstract_stages self.now.pipe)
-            (abstract_state self.now.units (rows_of latched word_at ports.now.items))
-            self.now.at)) }
+            (text_of self.now (rows_of latched word_at ports.now.items))) }
         ensures err { OnErr result (AppendsFront (K.taken out.old) (K.taken out.new)
-            (dump_of (abstract_stages self.now.pipe)
-            (abstract_state self.now.units (rows_of latched word_at ports.now.items))
-            self.now.at)) }
+            (text_of self.now (rows_of latched word_at ports.now.items))) }
         ensures failed { OnErr result (Rose (K.faults out.old) (K.faults out.new)) }
         ensures counted { K.faults out.old ≤ K.faults out.new }
     {
@@ -64,18 +60,13 @@ impl Machine {
         requires eight { vec_len ports.now ≡ 8 }
         requires number { number < first_of_memory + self.now.units.guard.size / 32 }
         ensures ok { OnOk result (Appends (K.taken out.old) (K.taken out.new)
-            (dump_line (abstract_stages self.now.pipe)
-            (abstract_state self.now.units (rows_of latched word_at ports.now.items)) self.now.at
-            number)) }
+            (line_of self.now (rows_of latched word_at ports.now.items) number)) }
         ensures err { OnErr result (AppendsFront (K.taken out.old) (K.taken out.new)
-            (dump_line (abstract_stages self.now.pipe)
-            (abstract_state self.now.units (rows_of latched word_at ports.now.items)) self.now.at
-            number)) }
+            (line_of self.now (rows_of latched word_at ports.now.items) number)) }
         ensures failed { OnErr result (Rose (K.faults out.old) (K.faults out.new)) }
         ensures counted { K.faults out.old ≤ K.faults out.new }
-        ensures nothing { dump_line (abstract_stages self.now.pipe)
-            (abstract_state self.now.units (rows_of latched word_at ports.now.items)) self.now.at
-            number ≡ [] → out.new ≡ out.old }
+        ensures nothing { line_of self.now (rows_of latched word_at ports.now.items) number ≡ []
+            → out.new ≡ out.old }
     {
         let line = self.line(ports, number);
         if line.is_empty() {

@@ -2,9 +2,11 @@
 //! setup, an image and the devices at the ports.
 #![tactic(auto)]
 
+mod cycles;
 mod dumping;
 mod feeding;
 mod field_laws;
+mod leaving;
 mod lines;
 mod loading;
 mod observer;

@@ -9,7 +9,8 @@ ghost use Rattle.trace_print.specs.DumpLines.{latch_text, thread_words_text};
 ghost use Rattle.machine.specs.DumpedState.{eight_from, traps_seen, timer_seen, words_seen};
 ghost use Rattle.machine.specs.Fields.{fetched_held, decoded_held, shown_word};
 ghost use Rattle.machine.specs.Fields.{executed_held, stored_held, written_held};
-ghost use Rattle.machine.specs.Fields.{head_line, thread_line, dump_line, first_of_memory};
+ghost use Rattle.machine.specs.Fields.{first_of_memory, head_line, head_lines, thread_line};
+ghost use Rattle.machine.specs.MachineDump.{line_of};
 ghost use Rattle.timer_unit.specs.Time.{timer_of};
 ghost use Rattle.trap_unit.specs.Rows.{trap_of};
 ghost use Rattle.pipeline_core.specs.Abstraction.{abstract_stages};
@@ -25,8 +26,14 @@ use trace_print::{
     timer_line, word_line,
 };
 
+/// The lines of the machine, which come first.
+const HEAD_LINES: u32 = 10;
+
+/// The lines of a thread.
+const THREAD_LINES: u32 = 7;
+
 /// The number of the first line of the data scratchpad.
-pub const FIRST_OF_MEMORY: u32 = 66;
+pub const FIRST_OF_MEMORY: u32 = HEAD_LINES + 8 * THREAD_LINES;
 
 /// Shows F. In F it isn't known yet whether the turn will be flushed.
 fn fetched_shown(held: &Held<Fetched>) -> Shown
@@ -146,7 +153,7 @@ impl Machine {
     /// One of the ten lines of the machine.
     #[tactic(auto, unfolding(crate::specs::Fields::head_line))]
     fn head_line(&self, k: u32) -> ArrayString<96>
-        requires { k < 10 }
+        requires { k < head_lines }
         ensures { result.bytes ≡ head_line (abstract_stages self.now.pipe)
             self.now.units.guard.size
             self.now.units.confined (abstract_registers self.now.units.sched self.now.units.guard)
@@ -275,14 +282,14 @@ impl Machine {
     pub(crate) fn line(&self, ports: &Ports, k: u32) -> ArrayString<96>
         requires eight { vec_len ports.now ≡ 8 }
         requires number { k < first_of_memory + self.now.units.guard.size / 32 }
-        ensures { result.bytes ≡ dump_line (abstract_stages self.now.pipe)
-            (abstract_state self.now.units (rows_of latched word_at ports.now.items))
-            self.now.at k }
+        ensures { result.bytes ≡ line_of self.now (rows_of latched word_at ports.now.items) k }
     {
-        if k < 10 {
+        if k < HEAD_LINES {
             self.head_line(k)
         } else if k < FIRST_OF_MEMORY {
-            self.thread_line(ports, ((k - 10) / 7) as u8, (k - 10) % 7)
+            let of_threads = k - HEAD_LINES;
+            let thread = (of_threads / THREAD_LINES) as u8;
+            self.thread_line(ports, thread, of_threads % THREAD_LINES)
         } else {
             self.words_line(k - FIRST_OF_MEMORY)
         }

@@ -1,13 +1,12 @@
-//! What looks on while a machine runs.
+//! The observer of a run.
 
-ghost use Rattle.std.specs.Prelude.{◌≡◌, ◌-◌, ◌<◌, ◌≤◌, OnOk, OnErr, [], true, is_some};
+ghost use Rattle.std.specs.Prelude.{◌≡◌, ◌<◌, ◌≤◌, OnOk, OnErr, [], true, is_some};
 ghost use Rattle.std.specs.Prelude.{if◌then◌else◌};
 ghost use Rattle.std.specs.Io.KnownBytes.{Appends};
 ghost use Rattle.fp_io.specs.Causes.{Rose};
 ghost use Rattle.fp_io.specs.Content.{AppendsFront};
 ghost use Rattle.timer_unit.specs.Time.{most_cycles};
-ghost use Rattle.core_model.specs.Cycles.{cycles_to_w};
-ghost use Rattle.pipe_model.specs.Stages.{retired_event};
+ghost use Rattle.pipeline_core.specs.Retiring.{retired_in};
 ghost use Rattle.pipeline_core.specs.Turns.{held};
 ghost use Rattle.pipeline_core.specs.StageFacts.{StoredFits};
 ghost use Rattle.machine.specs.Observing.{Acts, next_with, puts_with};
@@ -15,8 +14,8 @@ ghost use Rattle.machine.specs.Observing.{Acts, next_with, puts_with};
 use fp_io::{PutFailed, Sink};
 use pipeline_core::{StageRegister, Stored};
 
-/// What looks on while a machine runs. Each type of observer has a copy of the loop over cycles
-/// with all stages.
+/// Takes each turn that retires while a machine runs, and puts bytes for it. Each type of observer
+/// has a copy of the loop over cycles with all stages.
 pub trait Observer {
     // Its state after an event, the bytes that it puts for the event, and the bytes that are ready.
     ghost acts: { Acts Self };
@@ -26,13 +25,10 @@ pub trait Observer {
     fn retire(&mut self, turn: &StageRegister<Stored>, cycle: u64) -> bool
         requires cycle { cycle < most_cycles }
         requires fits { StoredFits (held turn.now) }
-        ensures state { self.new ≡ next_with acts self.old
-            (retired_event (cycle - cycles_to_w) (held turn.now)) }
-        ensures bytes { puts_with acts self.old
-            (retired_event (cycle - cycles_to_w) (held turn.now))
+        ensures state { self.new ≡ next_with acts self.old (retired_in cycle turn.now) }
+        ensures bytes { puts_with acts self.old (retired_in cycle turn.now)
             ≡ (if result then acts.ready self.new else []) }
-        ensures event { result ≡ true
-            → is_some (retired_event (cycle - cycles_to_w) (held turn.now)) ≡ true };
+        ensures event { result ≡ true → is_some (retired_in cycle turn.now) ≡ true };
 
     /// Puts the bytes that are ready. It is called after the cycle, so that the device calls of the
     /// cycle come before.

@@ -1,38 +1,31 @@
 //! A run: cycles of a machine, one after another.
 
 ghost use Rattle.std.specs.Prelude.{◌≡◌, ℕ, ◌+◌, ◌-◌, ◌<◌, ◌≤◌, true, List, Option, None, []};
-ghost use Rattle.std.specs.Prelude.{OnOk, OnErr, IfErr, IfSome, is_some, vec_len, length};
-ghost use Rattle.std.specs.Prelude.{if◌then◌else◌};
-ghost use Rattle.std.specs.List.{list_any};
+ghost use Rattle.std.specs.Prelude.{OnOk, OnErr, IfSome, vec_len, if◌then◌else◌};
 ghost use Rattle.fp_io.specs.Causes.{Rose};
 ghost use Rattle.timer_unit.specs.Time.{most_cycles};
-ghost use Rattle.fp_ports.specs.PluggedPorts.{Row, rows_of};
+ghost use Rattle.fp_ports.specs.PluggedPorts.{rows_of};
 ghost use Rattle.core_model.specs.Cycles.{cycles_to_m, cycles_to_w};
 ghost use Rattle.core_model.specs.World.{Start};
-ghost use Rattle.pipe_model.specs.declared.stage_registers.Held.{Held};
-ghost use Rattle.pipe_model.specs.declared.stage_registers.Written.{Written};
 ghost use Rattle.pipe_model.specs.Stages.{retired_event, writeback_stage};
 ghost use Rattle.pipeline_core.specs.Abstraction.{abstract_stages, registers_in};
+ghost use Rattle.pipeline_core.specs.Retiring.{retired_in};
 ghost use Rattle.pipeline_core.specs.Turns.{held, is_issue};
 ghost use Rattle.pipeline_core.specs.StageFacts.{WrittenFits};
 ghost use Rattle.rv_exec.specs.Line.{IsPrintableEvent};
 ghost use Rattle.machine.specs.Observing.{HasSeen, SawInPart, next_with, puts_with};
-ghost use Rattle.machine.specs.Running.{IsSameRun, KnowsPorts, Runs, Advanced, Stops};
-ghost use Rattle.machine.specs.Running.{turn_of};
-ghost use Rattle.machine.specs.Sleeping.{PassedOverWith};
-ghost use Rattle.machine.specs.WorldRelation.{AreLeft, Refines, RefinesWith, Ticks, TicksWith};
+ghost use Rattle.machine.specs.OneCycle.{DoesCycle, Skips};
+ghost use Rattle.machine.specs.Running.{Advanced, IsSameRun, KnowsPorts, Runs, RunsOn, turn_of};
+ghost use Rattle.machine.specs.WorldRelation.{AreLeft, Refines, Ticks};
 
+use crate::leaving::Leaving;
 use crate::observer::Observer;
 use crate::state::Machine;
-use crate::unseen::{Nowhere, Unseen};
 use fp_io::{PutFailed, Sink};
 use fp_ports::Ports;
 use pipe_model::{Held, Written};
 use pipeline_core::Stages;
 use rv_exec::Event;
-
-/// The loop of the last cycle of a run.
-pub(crate) struct Last;
 
 /// A machine that runs, with its stage registers as the stages use them. The machine's own `pipe`
 /// is that of an earlier cycle meanwhile. A run isn't `Drop`: only `finish` ends it, which gives
@@ -44,29 +37,6 @@ pub(crate) struct Run<'a> {
     loses_ports: bool,
 }
 
-/// An issue that leaves M: the turn in `w` after its cycle.
-#[derive(Clone, Copy, Drop)]
-pub(crate) struct Leaving {
-    thread: u8,
-    pc: u32,
-    word: u32,
-}
-
-impl Leaving {
-    /// Its turn.
-    fn held(self) -> Held<Written>
-        ensures { result ≡ turn_of self }
-    {
-        Held::Issue {
-            thread: self.thread,
-            what: Written {
-                pc: self.pc,
-                word: self.word,
-            },
-        }
-    }
-}
-
 impl Run<'_> {
     /// Does one cycle. `LOOP` is a type for each loop over cycles, as
     /// [`execute_frequent`](hart_exec::execute_frequent) says.
@@ -75,19 +45,11 @@ impl Run<'_> {
         requires cycle { self.old.machine.now.at < most_cycles }
         requires eight { vec_len ports.old ≡ 8 }
         requires known { KnowsPorts self.old }
-        ensures relation { (s : Start) (n : ℕ) (w : Held Written)
-            → self.old.machine.now.at < n + cycles_to_m
-            → RefinesWith s self.old.machine.now.at n (registers_in self.old.stages.now w)
-            self.old.machine.now (rows_of latched word_at ports.old.items)
-            → TicksWith s self.old.machine.now.at n (rows_of latched word_at ports.old.items)
-            (registers_in self.new.stages.now (writeback_stage (held self.old.stages.now.m)))
-            self.new.machine.now (rows_of latched word_at ports.new.items)
-            (retired_event (self.old.machine.now.at - cycles_to_w)
-            (held self.old.stages.now.m)) }
-        ensures same { IsSameRun self.old self.new }
-        ensures at { self.new.machine.now.at ≡ self.old.machine.now.at + 1 }
-        ensures words { AreLeft (rows_of latched word_at ports.old.items)
+        ensures cycle { DoesCycle self.old.stages.now self.old.machine.now
+            (rows_of latched word_at ports.old.items) self.new.stages.now
+            (writeback_stage (held self.old.stages.now.m)) self.new.machine.now
             (rows_of latched word_at ports.new.items) }
+        ensures same { IsSameRun self.old self.new }
         ensures eight { vec_len ports.new ≡ 8 }
     {
         let machine = &mut *self.machine;
@@ -103,18 +65,8 @@ impl Run<'_> {
     fn skip_sleep(&mut self, end: u64)
         requires { self.old.machine.now.at ≤ end }
         ensures same { IsSameRun self.old self.new }
-        ensures stages { self.new.stages.now ≡ self.old.stages.now }
-        ensures machine { self.new.machine.now
-            ≡ record self.old.machine.now { at = self.new.machine.now.at } }
-        ensures on { self.old.machine.now.at ≤ self.new.machine.now.at }
-        ensures end { self.new.machine.now.at ≤ end }
-        ensures passed { (s : Start) (n : ℕ) (ports : List (Option Row)) (w : Held Written)
-            → end ≤ n + cycles_to_m → length ports ≡ 8
-            → RefinesWith s self.old.machine.now.at n (registers_in self.old.stages.now w)
-            self.old.machine.now ports
-            → (v : Held Written)
-            × PassedOverWith s self.old.machine.now.at n (registers_in self.new.stages.now v)
-            self.new.machine.now ports }
+        ensures skips { Skips self.old.stages.now self.old.machine.now end self.new.stages.now
+            self.new.machine.now }
     {
         let stages = &*self.stages;
         if stages.f.is_bubble() {
@@ -128,10 +80,10 @@ impl Run<'_> {
     #[inline(always)]
     fn observe<O: Observer>(&self, observer: &mut O) -> bool
         requires { self.now.machine.now.at < most_cycles }
-        ensures state { observer.new ≡ next_with O.acts observer.old (retired_event
-            (self.now.machine.now.at - cycles_to_w) (held self.now.stages.now.m)) }
-        ensures bytes { puts_with O.acts observer.old (retired_event
-            (self.now.machine.now.at - cycles_to_w) (held self.now.stages.now.m))
+        ensures state { observer.new ≡ next_with O.acts observer.old
+            (retired_in self.now.machine.now.at self.now.stages.now.m) }
+        ensures bytes { puts_with O.acts observer.old
+            (retired_in self.now.machine.now.at self.now.stages.now.m)
             ≡ (if result then O.acts.ready observer.new else []) }
         ensures issue { result ≡ true → is_issue (held self.now.stages.now.m) ≡ true }
     {
@@ -177,12 +129,12 @@ impl Run<'_> {
         requires limit { end ≤ most_cycles }
         requires eight { vec_len ports.old ≡ 8 }
         requires known { KnowsPorts self.old }
-        ensures advanced { (s : Start) (c n : ℕ) (first : O) (told taken : Option (List ℕ))
+        ensures advanced { (s : Start) (c n : ℕ) (first : O) (prior taken : Option (List ℕ))
             → end ≤ n + cycles_to_m
             → Runs O.acts s c n first self.old.stages.now self.old.machine.now
-            (rows_of latched word_at ports.old.items) observer.old told taken
+            (rows_of latched word_at ports.old.items) observer.old prior taken
             → Advanced O.acts s c n first self.new.stages.now self.new.machine.now
-            (rows_of latched word_at ports.new.items) observer.new told taken result }
+            (rows_of latched word_at ports.new.items) observer.new prior taken result }
         ensures fits { IfSome result (λ x. x.thread < 8) }
         ensures same { IsSameRun self.old self.new }
         ensures on { self.old.machine.now.at < self.new.machine.now.at }
@@ -220,26 +172,12 @@ impl Run<'_> {
         requires limit { end ≤ most_cycles }
         requires eight { vec_len ports.old ≡ 8 }
         requires known { KnowsPorts self.old }
-        ensures ok { OnOk result ((s : Start) (c n : ℕ) (first : O) (told : Option (List ℕ))
-            → end ≤ n + cycles_to_m
-            → Runs O.acts s c n first self.old.stages.now self.old.machine.now
-            (rows_of latched word_at ports.old.items) observer.old told (K.taken out.old)
-            → Runs O.acts s c n first self.new.stages.now self.new.machine.now
-            (rows_of latched word_at ports.new.items) observer.new told (K.taken out.new)) }
-        ensures err { IfErr result (λ w. (s : Start) (c n : ℕ) (first : O)
-            (told : Option (List ℕ)) → end ≤ n + cycles_to_m
-            → Runs O.acts s c n first self.old.stages.now self.old.machine.now
-            (rows_of latched word_at ports.old.items) observer.old told (K.taken out.old)
-            → Stops O.acts s c n first (registers_in self.new.stages.now w) self.new.machine.now
-            (rows_of latched word_at ports.new.items) told (K.taken out.new)) }
-        ensures fits { IfErr result WrittenFits }
+        ensures runs { RunsOn O.acts end result self.old self.new
+            (rows_of latched word_at ports.old.items) (rows_of latched word_at ports.new.items)
+            observer.old observer.new (K.taken out.old) (K.taken out.new) }
         ensures failed { OnErr result (Rose (K.faults out.old) (K.faults out.new)) }
         ensures counted { K.faults out.old ≤ K.faults out.new }
-        ensures same { IsSameRun self.old self.new }
         ensures on { self.old.machine.now.at < self.new.machine.now.at }
-        ensures end { self.new.machine.now.at ≤ end }
-        ensures words { AreLeft (rows_of latched word_at ports.old.items)
-            (rows_of latched word_at ports.new.items) }
         ensures eight { vec_len ports.new ≡ 8 }
     {
         let Some(leaving) = self.advance(end, ports, observer) else {
@@ -265,26 +203,12 @@ impl Run<'_> {
         requires limit { end ≤ most_cycles }
         requires eight { vec_len ports.old ≡ 8 }
         requires known { KnowsPorts self.old }
-        ensures ok { OnOk result ((s : Start) (c n : ℕ) (first : O) (told : Option (List ℕ))
-            → end ≤ n + cycles_to_m
-            → Runs O.acts s c n first self.old.stages.now self.old.machine.now
-            (rows_of latched word_at ports.old.items) observer.old told (K.taken out.old)
-            → Runs O.acts s c n first self.new.stages.now self.new.machine.now
-            (rows_of latched word_at ports.new.items) observer.new told (K.taken out.new)) }
-        ensures err { IfErr result (λ w. (s : Start) (c n : ℕ) (first : O)
-            (told : Option (List ℕ)) → end ≤ n + cycles_to_m
-            → Runs O.acts s c n first self.old.stages.now self.old.machine.now
-            (rows_of latched word_at ports.old.items) observer.old told (K.taken out.old)
-            → Stops O.acts s c n first (registers_in self.new.stages.now w) self.new.machine.now
-            (rows_of latched word_at ports.new.items) told (K.taken out.new)) }
-        ensures fits { IfErr result WrittenFits }
+        ensures runs { RunsOn O.acts end result self.old self.new
+            (rows_of latched word_at ports.old.items) (rows_of latched word_at ports.new.items)
+            observer.old observer.new (K.taken out.old) (K.taken out.new) }
         ensures failed { OnErr result (Rose (K.faults out.old) (K.faults out.new)) }
         ensures counted { K.faults out.old ≤ K.faults out.new }
-        ensures same { IsSameRun self.old self.new }
         ensures cycles { OnOk result (self.new.machine.now.at ≡ end) }
-        ensures end { self.new.machine.now.at ≤ end }
-        ensures words { AreLeft (rows_of latched word_at ports.old.items)
-            (rows_of latched word_at ports.new.items) }
         ensures eight { vec_len ports.new ≡ 8 }
     {
         while self.machine.at < end {
@@ -301,20 +225,11 @@ impl Run<'_> {
         requires cycle { self.old.machine.now.at < most_cycles }
         requires eight { vec_len ports.old ≡ 8 }
         requires known { KnowsPorts self.old }
-        ensures relation { (s : Start) (n : ℕ) (w : Held Written)
-            → self.old.machine.now.at < n + cycles_to_m
-            → RefinesWith s self.old.machine.now.at n (registers_in self.old.stages.now w)
-            self.old.machine.now (rows_of latched word_at ports.old.items)
-            → TicksWith s self.old.machine.now.at n (rows_of latched word_at ports.old.items)
-            (registers_in self.new.stages.now result) self.new.machine.now
-            (rows_of latched word_at ports.new.items)
-            (retired_event (self.old.machine.now.at - cycles_to_w)
-            (held self.old.stages.now.m)) }
+        ensures cycle { DoesCycle self.old.stages.now self.old.machine.now
+            (rows_of latched word_at ports.old.items) self.new.stages.now result
+            self.new.machine.now (rows_of latched word_at ports.new.items) }
         ensures fits { WrittenFits result }
         ensures same { IsSameRun self.old self.new }
-        ensures at { self.new.machine.now.at ≡ self.old.machine.now.at + 1 }
-        ensures words { AreLeft (rows_of latched word_at ports.old.items)
-            (rows_of latched word_at ports.new.items) }
         ensures eight { vec_len ports.new ≡ 8 }
     {
         let machine = &mut *self.machine;
@@ -340,74 +255,6 @@ impl Run<'_> {
 }
 
 impl Machine {
-    /// Does one cycle with these stage registers, as [`Run::tick`] does. A loop over cycles calls
-    /// it by a `Run`. It takes the parts of the run, so that a run stays in registers.
-    fn do_cycle<LOOP>(&mut self, stages: &mut Stages, ports: &mut Ports, loses_ports: bool)
-        requires cycle { self.old.at < most_cycles }
-        requires eight { vec_len ports.old ≡ 8 }
-        requires known { loses_ports ≡ list_any is_some self.old.unplugs }
-        ensures relation { (s : Start) (n : ℕ) (w : Held Written)
-            → self.old.at < n + cycles_to_m
-            → RefinesWith s self.old.at n (registers_in stages.old w) self.old
-            (rows_of latched word_at ports.old.items)
-            → TicksWith s self.old.at n (rows_of latched word_at ports.old.items)
-            (registers_in stages.new (writeback_stage (held stages.old.m))) self.new
-            (rows_of latched word_at ports.new.items)
-            (retired_event (self.old.at - cycles_to_w) (held stages.old.m)) }
-        ensures at { self.new.at ≡ self.old.at + 1 }
-        ensures unplugs { self.new.unplugs ≡ self.old.unplugs }
-        ensures words { AreLeft (rows_of latched word_at ports.old.items)
-            (rows_of latched word_at ports.new.items) }
-        ensures eight { vec_len ports.new ≡ 8 }
-    {
-        self.take_if_any(ports, loses_ports);
-        stages.tick::<LOOP>(&mut self.units, ports, self.at);
-        self.at += 1;
-    }
-
-    /// Does the last cycle of a run, as [`Run::last`] does. It isn't inlined: a run calls it once,
-    /// and the loop over the other cycles has a copy of the stages.
-    #[inline(never)]
-    fn do_last_cycle(
-        &mut self,
-        stages: &mut Stages,
-        ports: &mut Ports,
-        loses_ports: bool,
-    ) -> Held<Written>
-        requires cycle { self.old.at < most_cycles }
-        requires eight { vec_len ports.old ≡ 8 }
-        requires known { loses_ports ≡ list_any is_some self.old.unplugs }
-        ensures relation { (s : Start) (n : ℕ) (w : Held Written)
-            → self.old.at < n + cycles_to_m
-            → RefinesWith s self.old.at n (registers_in stages.old w) self.old
-            (rows_of latched word_at ports.old.items)
-            → TicksWith s self.old.at n (rows_of latched word_at ports.old.items)
-            (registers_in stages.new result) self.new (rows_of latched word_at ports.new.items)
-            (retired_event (self.old.at - cycles_to_w) (held stages.old.m)) }
-        ensures fits { WrittenFits result }
-        ensures at { self.new.at ≡ self.old.at + 1 }
-        ensures unplugs { self.new.unplugs ≡ self.old.unplugs }
-        ensures words { AreLeft (rows_of latched word_at ports.old.items)
-            (rows_of latched word_at ports.new.items) }
-        ensures eight { vec_len ports.new ≡ 8 }
-    {
-        let w = stages.written();
-        self.do_cycle::<Last>(stages, ports, loses_ports);
-        w
-    }
-
-    /// Puts the stage registers of `stages` into the machine, with this turn in `w`. It isn't
-    /// inlined, so that a loop over lines doesn't touch the memory of its temporary values.
-    #[cold]
-    #[inline(never)]
-    fn take_stages(&mut self, stages: &Stages, w: Held<Written>)
-        requires { WrittenFits w }
-        ensures stages { abstract_stages self.new.pipe ≡ registers_in stages.now w }
-        ensures same { self.new ≡ record self.old { pipe = self.new.pipe } }
-    {
-        self.pipe = stages.pipe(w);
-    }
-
     /// Does one cycle, a run of its own. Returns the event of the issue of four cycles ago, or None
     /// if there is no such issue or event. A thread that is unplugged in cycle u loses its port at
     /// the start of cycle u + 3. In that cycle its issue of cycle u reaches the port.
@@ -504,21 +351,5 @@ impl Machine {
             return observer.write(out);
         }
         Ok(())
-    }
-
-    /// Does the cycles before `end`, and puts nothing.
-    pub fn run_unseen(&mut self, end: u64, ports: &mut Ports)
-        requires begun { self.old.at ≤ end }
-        requires limit { end ≤ most_cycles }
-        requires eight { vec_len ports.old ≡ 8 }
-        ensures relation { (s : Start) (n : ℕ) → end ≤ n + cycles_to_m
-            → Refines s self.old.at n self.old (rows_of latched word_at ports.old.items)
-            → Refines s end n self.new (rows_of latched word_at ports.new.items) }
-        ensures at { self.new.at ≡ end }
-        ensures words { AreLeft (rows_of latched word_at ports.old.items)
-            (rows_of latched word_at ports.new.items) }
-        ensures eight { vec_len ports.new ≡ 8 }
-    {
-        let _done = self.run_with(end, ports, &mut Unseen, &mut Nowhere);
     }
 }

@@ -1,19 +1,11 @@
 //! The cycles in which every thread sleeps.
 
-ghost use Rattle.std.specs.Prelude.{◌≡◌, ℕ, ◌+◌, ◌<◌, ◌≤◌, true, false, List};
-ghost use Rattle.std.specs.Prelude.{Option, is_some, length, slice_index_or};
+ghost use Rattle.std.specs.Prelude.{◌≡◌, ℕ, ◌<◌, ◌≤◌, true, false, is_some, slice_index_or};
 ghost use Rattle.std.specs.List.{list_any};
-ghost use Rattle.fp_ports.specs.PluggedPorts.{Row};
 ghost use Rattle.slot_scheduler.specs.ModeWord.{is_active, mode_of};
 ghost use Rattle.timer_unit.specs.Time.{time};
-ghost use Rattle.core_model.specs.Cycles.{cycles_to_m};
-ghost use Rattle.core_model.specs.World.{Start};
-ghost use Rattle.pipe_model.specs.PipelineLaws.{empty};
-ghost use Rattle.pipeline_core.specs.Abstraction.{registers_in};
-ghost use Rattle.pipe_model.specs.declared.stage_registers.Held.{Held};
-ghost use Rattle.pipe_model.specs.declared.stage_registers.Written.{Written};
-ghost use Rattle.machine.specs.Sleeping.{NobodyAwake, PassedOverWith, SleepsOn};
-ghost use Rattle.machine.specs.WorldRelation.{RefinesWith};
+ghost use Rattle.machine.specs.OneCycle.{Skips};
+ghost use Rattle.machine.specs.Sleeping.{NobodyAwake, SleepsOn};
 
 use crate::state::Machine;
 use pipeline_core::Stages;
@@ -27,6 +19,19 @@ pub fn sleeps_on()
 /// The sleep moment used for a thread that isn't active: the greatest u64.
 const NEVER: u64 = u64::MAX;
 
+/// The mode of an active hard thread.
+const HARD_ACTIVE: u8 = 0;
+
+/// The mode of an active soft thread.
+const SOFT_ACTIVE: u8 = 2;
+
+/// Whether a thread of this mode is active, hard or soft.
+fn is_active(mode: u8) -> bool
+    ensures { result ≡ is_active mode }
+{
+    mode == HARD_ACTIVE || mode == SOFT_ACTIVE
+}
+
 impl Machine {
     /// Skips cycles before `end` in which every thread sleeps, in one step, if the pipeline of
     /// these stage registers is empty. It may skip fewer such cycles than there are, or none. It
@@ -38,14 +43,7 @@ impl Machine {
     #[inline(never)]
     pub(crate) fn skip_empty(&mut self, stages: &Stages, end: u64)
         requires { self.old.at ≤ end }
-        ensures on { self.old.at ≤ self.new.at }
-        ensures end { self.new.at ≤ end }
-        ensures same { self.new ≡ record self.old { at = self.new.at } }
-        ensures passed { (s : Start) (n : ℕ) (ports : List (Option Row)) (w : Held Written)
-            → end ≤ n + cycles_to_m → length ports ≡ 8
-            → RefinesWith s self.old.at n (registers_in stages.now w) self.old ports
-            → (v : Held Written)
-            × PassedOverWith s self.old.at n (registers_in stages.now v) self.new ports }
+        ensures { Skips stages.now self.old end stages.now self.new }
     {
         if stages.is_empty() {
             self.at = self.end_of_sleep(end);
@@ -97,7 +95,7 @@ impl Machine {
         ensures { is_active (mode_of self.now.units.sched.modes thread) ≡ true
             → result ≤ slice_index_or self.now.units.sched.sleep thread 0 }
     {
-        if self.units.sched.modes.mode(thread) % 2 == 0 {
+        if is_active(self.units.sched.modes.mode(thread)) {
             self.units.sched.sleep[usize::from(thread)]
         } else {
             NEVER

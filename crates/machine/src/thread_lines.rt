@@ -1,9 +1,8 @@
 //! The lines of a thread.
 
-ghost use Rattle.std.specs.Prelude.{◌≡◌, ◌-◌, ◌<◌, is_some};
+ghost use Rattle.std.specs.Prelude.{◌≡◌, ◌<◌, is_some};
 ghost use Rattle.timer_unit.specs.Time.{most_cycles};
-ghost use Rattle.core_model.specs.Cycles.{cycles_to_w};
-ghost use Rattle.pipe_model.specs.Stages.{retired_event};
+ghost use Rattle.pipeline_core.specs.Retiring.{retired_in};
 ghost use Rattle.pipeline_core.specs.Turns.{held};
 ghost use Rattle.pipeline_core.specs.StageFacts.{StoredFits};
 ghost use Rattle.machine.specs.ThreadLines.{line_with};
@@ -40,9 +39,8 @@ impl ThreadLines {
 fn set_line(line: &mut EventLine, turn: &StageRegister<Stored>, cycle: u64) -> bool
     requires cycle { cycle < most_cycles }
     requires fits { StoredFits (held turn.now) }
-    ensures event { result ≡ is_some (retired_event (cycle - cycles_to_w) (held turn.now)) }
-    ensures line { line.new ≡ line_with line.old
-        (retired_event (cycle - cycles_to_w) (held turn.now)) }
+    ensures event { result ≡ is_some (retired_in cycle turn.now) }
+    ensures line { line.new ≡ line_with line.old (retired_in cycle turn.now) }
 {
     match turn.retired(cycle) {
         Some(it) => {

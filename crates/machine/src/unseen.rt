@@ -1,4 +1,4 @@
-//! A run that nobody looks at.
+//! A run that puts nothing.
 
 ghost use Rattle.std.specs.Prelude.{None};
 
@@ -6,7 +6,7 @@ use crate::observer::Observer;
 use fp_io::{PutFailed, Sink};
 use pipeline_core::{StageRegister, Stored};
 
-/// Nobody looks on.
+/// An observer that ignores each turn.
 #[derive(Drop)]
 pub(crate) struct Unseen;
 
@@ -26,7 +26,7 @@ impl Observer for Unseen {
     }
 }
 
-/// A sink for an observer that puts nothing. It drops what it takes, and tells nothing of it.
+/// A sink for an observer that puts nothing. It drops each byte, and its list of bytes is unknown.
 #[derive(Drop)]
 pub struct Nowhere;
 

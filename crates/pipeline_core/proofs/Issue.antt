@@ -1,6 +1,6 @@
 -- The stage after an executed issue.
 use Rattle.std.proofs.Common.{◌≡◌, ◌==◌, ℕ, Bool, true, false, if◌then◌else◌}
-use Rattle.std.proofs.Common.{Some, None, inl, inr, refl, ap, ◌∙◌}
+use Rattle.std.proofs.Common.{Some, None, inl, inr, refl, ap, subst, ◌∙◌}
 use Rattle.std.specs.Prelude.{Option, slice_set}
 use Rattle.std.proofs.lemmas.Bool.Decides.{eqb_tells}
 use Rattle.pipe_model.specs.declared.stage_registers.Redirect.{Redirect}
@@ -14,22 +14,26 @@ use Rattle.core_model.specs.Thread.{Environment, Execution, no_own}
 use Rattle.core_model.specs.Issue.{execute_in}
 use Rattle.core_model.specs.World.{registers_after}
 use Rattle.hart_exec.specs.declared.hart.Hart.{Hart}
-use Rattle.hart_exec.specs.declared.outcome.ExecResult.{ExecResult}
-use Rattle.hart_exec.specs.Units.{Refines, Units, environment_of, abstract_result}
+use Rattle.hart_exec.specs.declared.result.ExecResult.{ExecResult}
+use Rattle.hart_exec.specs.Units.{RefinesExecution, Units, environment_of, abstract_result}
 use Rattle.hart_exec.specs.Units.{guard_by, own_of, sched_by, units_after, units_of}
 use Rattle.pipe_model.specs.declared.stage_registers.Decoded.{Decoded}
+use Rattle.pipe_model.specs.declared.stage_registers.Executed.{Executed}
+use Rattle.pipe_model.specs.declared.stage_registers.Held.{Held}
 use Rattle.pipe_model.specs.declared.stage_registers.Held.TheVariants.{Issue}
 use Rattle.pipe_model.specs.Stages.{After, Control, control_after}
 use Rattle.pipe_model.specs.Stages.{executed_of, executes, own_in, redirect_of}
 use Rattle.pipeline_core.specs.Abstraction.{abstract_control, abstract_registers}
+use Rattle.pipeline_core.specs.Executing.{Executes}
+use Rattle.pipeline_core.specs.declared.units.Units.{Units as CoreUnits}
 
--- the redirect of a thread whose next turns are flushed in a way
+-- the redirect of a thread whose next turns are flushed
 pub redirecting : (plain late : Bool) (k pc : ℕ) (flush : Flush) →
     Some flush ≡ (if plain then None else Some (if late then Decode else DecodeAndFetch)) →
-    let told : Redirect =
+    let wanted : Redirect =
     record { thread = k; pc = pc; flush = if late then Decode else DecodeAndFetch } in
     let to : Redirect = record { thread = k; pc = pc; flush = flush } in
-    (if plain then None else Some told) ≡ Some to
+    (if plain then None else Some wanted) ≡ Some to
 redirecting true late k pc flush h = cc
 redirecting false late k pc flush h = cc
 
@@ -76,7 +80,8 @@ controls k d u = λ j. record {
 -- an executed instruction leaves the state that the execute stage defines
 pub issue_after : (h g : Hart) (done : ExecResult) (x : Decoded) (a : Environment) →
     environment_of h ≡ a →
-    Refines h g done (execute_in (environment_of h) x.pc (own_of h) x.expired x.word x.a x.b) →
+    RefinesExecution h g done
+    (execute_in (environment_of h) x.pc (own_of h) x.expired x.word x.a x.b) →
     let left : After = record {
       e = Issue h.thread (executed_of x (abstract_result no_own done));
       control = control_of (units_of g);
@@ -114,6 +119,13 @@ guard-size (Some (Csr csr value rd old)) g = go (csr == 0x7C2) (csr == 0x7C3)
 guard-size (Some (Trap cause target)) g = refl
 guard-size (Some Wait) g = refl
 
-pub size_after : (h g : Hart) (done : ExecResult) (d : Execution) → Refines h g done d →
+pub size_after : (h g : Hart) (done : ExecResult) (d : Execution) → RefinesExecution h g done d →
     g.guard.now.size ≡ h.guard.now.size
 size_after h g done d r = ap (λ (u : Units). u.guard.size) r.units ∙ guard-size d.effect h.guard.now
+
+-- an execution on units that are equal to others
+pub executes_from : {before same after : CoreUnits} {cycle : ℕ} {d : Held Decoded}
+    {e : Held Executed} {to : Option Redirect} → before ≡ same →
+    Executes before after cycle d e to → Executes same after cycle d e to
+executes_from {before} {same} {after} {cycle} {d} {e} {to} equal done =
+    subst (λ (u : CoreUnits). Executes u after cycle d e to) equal done

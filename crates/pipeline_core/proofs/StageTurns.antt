@@ -1,4 +1,4 @@
--- The turns of the stages, by the byte that tells them.
+-- The turns of the stages, by their bytes.
 use Rattle.std.proofs.Common.{ℕ, ◌<◌}
 use Rattle.pipe_model.specs.declared.stage_registers.Executed.{Executed}
 use Rattle.pipe_model.specs.declared.stage_registers.Stored.{Stored}

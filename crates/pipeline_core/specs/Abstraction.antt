@@ -1,5 +1,5 @@
 -- Abstraction functions of the pipeline and the units.
-use Rattle.std.specs.Prelude.{ℕ, ◌-◌, List, Option}
+use Rattle.std.specs.Prelude.{List, Option}
 use Rattle.fp_ports.specs.PluggedPorts.{Row}
 use Rattle.rv_exec.specs.declared.outcome.Event.{Event}
 use Rattle.region_guard.specs.declared.access.Guard.{Guard}
@@ -7,11 +7,8 @@ use Rattle.slot_scheduler.specs.declared.picking.Sched.{Sched}
 use Rattle.timer_unit.specs.declared.row.Timer.{Timer}
 use Rattle.core_model.specs.declared.own.Trapping.{Trapping}
 use Rattle.core_model.specs.World.{Registers}
-use Rattle.core_model.specs.Cycles.{cycles_to_e}
-use Rattle.timer_unit.specs.Time.{time}
 use Rattle.pipe_model.specs.declared.stage_registers.Held.{Held}
-use Rattle.pipe_model.specs.declared.stage_registers.Decoded.{Decoded}
-use Rattle.pipe_model.specs.Stages.{StageRegisters, Control, State, Ticked, After, execute_stage}
+use Rattle.pipe_model.specs.Stages.{StageRegisters, Control, State, Ticked}
 use Rattle.pipe_model.specs.declared.stage_registers.Written.{Written}
 use Rattle.pipeline_core.specs.declared.pipe.Pipe.{Pipe}
 use Rattle.pipeline_core.specs.declared.stages.Stages.{Stages}
@@ -35,12 +32,6 @@ abstract_registers s g = record { slots = s.slots; modes = s.modes; dregions = g
 abbrev pub abstract_control : Sched → Guard → List Timer → List Trapping → Control
 abstract_control s g timers traps =
     record { registers = abstract_registers s g; timers = timers; traps = traps; sleeps = s.sleep }
-
--- the result of the execute stage for a turn in a cycle
-abbrev pub executed_by : Units → ℕ → Held Decoded → After
-executed_by u cycle d =
-    execute_stage u.guard.size u.confined u.permit (time u.clock (cycle - cycles_to_e))
-    (abstract_control u.sched u.guard u.timers u.traps) d
 
 -- the contents of the units, with the ports
 abbrev pub abstract_state : Units → List (Option Row) → State

@@ -2,6 +2,8 @@ pub mod StageFacts
 pub mod Turns
 pub mod Retiring
 pub mod Abstraction
+pub mod Executing
+pub mod YoungerStages
 pub use Rattle.core_model.specs.Cycles
 pub use Rattle.core_model.specs.Memory
 pub use Rattle.core_model.specs.Thread

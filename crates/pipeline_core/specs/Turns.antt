@@ -1,11 +1,11 @@
--- What a stage register holds, as the stages use it.
+-- The turn of a stage register, as the stages use it.
 use Rattle.std.specs.Prelude.{ℕ, ◌-◌, ◌<◌, nat_lt, Bool, true, false, if◌then◌else◌}
 use Rattle.pipe_model.specs.declared.stage_registers.Held.{Held}
 use Rattle.pipe_model.specs.declared.stage_registers.Held.TheVariants.{Bubble, Flushed, Issue}
 use Rattle.pipeline_core.specs.declared.stage_register.StageRegister.{StageRegister}
 
 -- the turn of a byte. Below 8 it is the thread of an issue, from 8 to 15 that of a flushed turn
--- plus 8. From 16 on it tells a bubble
+-- plus 8. From 16 on the turn is a bubble
 unfoldable pub turn_of : {A : Type 0} → ℕ → A → Held A
 turn_of turn what =
     if nat_lt turn 8 then Issue turn what
@@ -31,8 +31,8 @@ is_bubble Bubble = true
 is_bubble (Flushed k) = false
 is_bubble (Issue k x) = false
 
--- the turn of the stage register before, where it isn't an issue
-abbrev pub passed : {A B : Type 0} → Held A → Held B
-passed Bubble = Bubble
-passed (Flushed k) = Flushed k
-passed (Issue k x) = Bubble
+-- a turn that isn't an issue, in the next stage register
+abbrev pub next_turn : {A B : Type 0} → Held A → Held B
+next_turn Bubble = Bubble
+next_turn (Flushed k) = Flushed k
+next_turn (Issue k x) = Bubble

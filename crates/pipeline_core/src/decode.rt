@@ -175,7 +175,7 @@ pub fn decode_stage(
     ensures fits { DecodedFits (held d.new) }
 {
     if !f.is_issue() {
-        d.pass(f);
+        d.take_turn(f);
     } else if flushes_d(f.turn, redirect) {
         d.flush(f.turn);
     } else {

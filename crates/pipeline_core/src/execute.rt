@@ -1,25 +1,23 @@
 //! E: instructions are executed, but for late values.
 
 ghost use Rattle.std.specs.Prelude.{◌≡◌, ◌-◌, ◌<◌, ◌%◌, ◌==◌, if◌then◌else◌};
-ghost use Rattle.std.specs.Prelude.{List, Option, Some, None, IfSome, is_some, true};
+ghost use Rattle.std.specs.Prelude.{Some, None, IfSome, is_some, true};
 ghost use Rattle.core_model.specs.Issue.{execute_in};
 ghost use Rattle.core_model.specs.Thread.{no_own};
 ghost use Rattle.rv_decode.specs.Table.{ins};
 ghost use Rattle.rv_decode.specs.Lag.{plain_lag, late_lag};
 ghost use Rattle.rv_exec.specs.Access.{IsAligned};
 ghost use Rattle.timer_unit.specs.Time.{most_cycles};
-ghost use Rattle.fp_ports.specs.PluggedPorts.{Row};
 ghost use Rattle.hart_exec.specs.Effects.{HasWord, IsAlignedStore, IsPrintableEffect};
-ghost use Rattle.hart_exec.specs.Units.{Holds, Refines, abstract_result, environment_of};
+ghost use Rattle.hart_exec.specs.Units.{Holds, RefinesExecution, abstract_result, environment_of};
 ghost use Rattle.hart_exec.specs.Units.{own_of, units_of};
-ghost use Rattle.pipe_model.specs.Stages.{execute_stage, executed_of, redirect_of};
+ghost use Rattle.pipe_model.specs.Stages.{executed_of, redirect_of};
 ghost use Rattle.pipe_model.specs.declared.stage_registers.Held.TheVariants.{Issue};
 ghost use Rattle.pipe_model.specs.declared.stage_registers.Flush.TheVariants.{Decode};
 ghost use Rattle.pipe_model.specs.declared.stage_registers.Flush.TheVariants.{DecodeAndFetch};
 ghost use Rattle.pipeline_core.specs.Turns.{held};
-ghost use Rattle.pipeline_core.specs.StageFacts.{IsPc, DecodedFits};
-ghost use Rattle.pipeline_core.specs.StageFacts.{ExecutedFits, RedirectFits};
-ghost use Rattle.pipeline_core.specs.Abstraction.{executed_by, abstract_state};
+ghost use Rattle.pipeline_core.specs.StageFacts.{IsPc, DecodedFits, RedirectFits};
+ghost use Rattle.pipeline_core.specs.Executing.{Executes, redirect_if};
 
 use crate::stage_register::StageRegister;
 use crate::units::Units;
@@ -107,7 +105,7 @@ fn put_executed(thread: u8, x: &Decoded, done: &ExecResult, e: &mut StageRegiste
 /// then `redirect` has a meaning, and the thread continues there. The stage register is written in
 /// both branches, because the compiler knows the lag there.
 #[inline(always)]
-fn leave(
+fn put_result(
     thread: u8,
     x: &Decoded,
     done: &ExecResult,
@@ -119,8 +117,8 @@ fn leave(
     requires shown { HasWord done.now.effect done.now.word }
     ensures e { held e.new ≡ Issue thread (executed_of x.now (abstract_result no_own done.now)) }
     ensures redirect { redirect_of thread (abstract_result no_own done.now)
-        ≡ (if result then Some redirect.new else None) }
-    ensures fits { RedirectFits (if result then Some redirect.new else None) }
+        ≡ redirect_if result redirect.new }
+    ensures fits { RedirectFits (redirect_if result redirect.new) }
 {
     let Some(flush) = flush_of(done.lag) else {
         put_executed(thread, x, done, e);
@@ -148,7 +146,7 @@ fn execute_one<const RARE: bool, LOOP>(
     ensures all { RARE ≡ true → is_some result ≡ true }
     ensures left { result ≡ None → units_of hart.new ≡ units_of hart.old }
     ensures holds { Holds hart.old hart.new }
-    ensures refines { IfSome result (λ x. Refines hart.old hart.new x (execute_in
+    ensures refines { IfSome result (λ x. RefinesExecution hart.old hart.new x (execute_in
         (environment_of hart.old) at.pc
         (own_of hart.old) expired at.word s.a s.b)) }
     ensures pc { IfSome result (λ x. x.pc % 4 ≡ 0) }
@@ -181,18 +179,8 @@ fn execute_issue<const RARE: bool, LOOP>(
     requires pc { IsPc x.now.pc }
     ensures all { RARE ≡ true → is_some result ≡ true }
     ensures left { result ≡ None → units.new ≡ units.old }
-    ensures e { IfSome result (λ flushes.
-        held e.new ≡ (executed_by units.old cycle (Issue thread x.now)).e) }
-    ensures redirect { IfSome result (λ flushes.
-        (executed_by units.old cycle (Issue thread x.now)).redirect
-        ≡ (if flushes then Some redirect.new else None)) }
-    ensures units { IfSome result (λ flushes. (ports : List (Option Row))
-        → abstract_state units.new ports ≡ record (abstract_state units.old ports) {
-          control = (executed_by units.old cycle (Issue thread x.now)).control;
-        }) }
-    ensures fits { IfSome result (λ flushes. ExecutedFits (held e.new)) }
-    ensures redirect_fits { IfSome result (λ flushes.
-        RedirectFits (if flushes then Some redirect.new else None)) }
+    ensures executed { IfSome result (λ flushes. Executes units.old units.new cycle
+        (Issue thread x.now) (held e.new) (redirect_if flushes redirect.new)) }
 {
     let at = PcWord {
         pc: x.pc,
@@ -210,7 +198,7 @@ fn execute_issue<const RARE: bool, LOOP>(
     };
     let s = Sources { a: x.a, b: x.b };
     let done = execute_one::<RARE, LOOP>(&mut hart, at, x.expired, s)?;
-    Some(leave(thread, x, &done, e, redirect))
+    Some(put_result(thread, x, &done, e, redirect))
 }
 
 /// Executes a rare issue. It is a function by itself, so that the results of the frequent issues
@@ -227,14 +215,7 @@ fn execute_rare(
     requires thread { thread < 8 }
     requires cycle { cycle < most_cycles }
     requires pc { IsPc x.now.pc }
-    ensures e { held e.new ≡ (executed_by units.old cycle (Issue thread x.now)).e }
-    ensures redirect { (executed_by units.old cycle (Issue thread x.now)).redirect ≡ result }
-    ensures units { (ports : List (Option Row)) → abstract_state units.new ports
-        ≡ record (abstract_state units.old ports) {
-          control = (executed_by units.old cycle (Issue thread x.now)).control;
-        } }
-    ensures fits { ExecutedFits (held e.new) }
-    ensures redirect_fits { RedirectFits result }
+    ensures { Executes units.old units.new cycle (Issue thread x.now) (held e.new) result }
 {
     let mut redirect = Redirect {
         thread,
@@ -262,15 +243,8 @@ fn execute_out_of_line(
     requires thread { thread < 8 }
     requires cycle { cycle < most_cycles }
     requires pc { IsPc x.now.pc }
-    ensures e { held e.new ≡ (executed_by units.old cycle (Issue thread x.now)).e }
-    ensures redirect { (executed_by units.old cycle (Issue thread x.now)).redirect
-        ≡ (if result then Some redirect.new else None) }
-    ensures units { (ports : List (Option Row)) → abstract_state units.new ports
-        ≡ record (abstract_state units.old ports) {
-          control = (executed_by units.old cycle (Issue thread x.now)).control;
-        } }
-    ensures fits { ExecutedFits (held e.new) }
-    ensures redirect_fits { RedirectFits (if result then Some redirect.new else None) }
+    ensures { Executes units.old units.new cycle (Issue thread x.now) (held e.new)
+        (redirect_if result redirect.new) }
 {
     let Some(to) = execute_rare(units, cycle, thread, x, e) else {
         return false;
@@ -292,15 +266,8 @@ fn execute_turn<LOOP>(
     requires thread { thread < 8 }
     requires cycle { cycle < most_cycles }
     requires pc { IsPc x.now.pc }
-    ensures e { held e.new ≡ (executed_by units.old cycle (Issue thread x.now)).e }
-    ensures redirect { (executed_by units.old cycle (Issue thread x.now)).redirect
-        ≡ (if result then Some redirect.new else None) }
-    ensures units { (ports : List (Option Row)) → abstract_state units.new ports
-        ≡ record (abstract_state units.old ports) {
-          control = (executed_by units.old cycle (Issue thread x.now)).control;
-        } }
-    ensures fits { ExecutedFits (held e.new) }
-    ensures redirect_fits { RedirectFits (if result then Some redirect.new else None) }
+    ensures { Executes units.old units.new cycle (Issue thread x.now) (held e.new)
+        (redirect_if result redirect.new) }
 {
     match execute_issue::<false, LOOP>(units, cycle, thread, x, e, redirect) {
         Some(flushes) => flushes,
@@ -322,18 +289,11 @@ pub fn execute_stage<LOOP>(
 ) -> bool
     requires fits { DecodedFits (held d.now) }
     requires cycle { cycle < most_cycles }
-    ensures e { held e.new ≡ (executed_by units.old cycle (held d.now)).e }
-    ensures redirect { (executed_by units.old cycle (held d.now)).redirect
-        ≡ (if result then Some redirect.new else None) }
-    ensures units { (ports : List (Option Row)) → abstract_state units.new ports
-        ≡ record (abstract_state units.old ports) {
-          control = (executed_by units.old cycle (held d.now)).control;
-        } }
-    ensures fits { ExecutedFits (held e.new) }
-    ensures redirect_fits { RedirectFits (if result then Some redirect.new else None) }
+    ensures { Executes units.old units.new cycle (held d.now) (held e.new)
+        (redirect_if result redirect.new) }
 {
     if !d.is_issue() {
-        e.pass(d);
+        e.take_turn(d);
         return false;
     }
     execute_turn::<LOOP>(units, cycle, d.turn, &d.what, e, redirect)

@@ -82,7 +82,7 @@ fn lanes_of(size: u8, address: u32, value: u32) -> Lanes
 
 /// Applies an effect to the data scratchpad.
 #[inline(always)]
-pub fn store_word(guard: &Guard, dmem: &mut Spm, effect: &Option<Effect>)
+pub fn store_in_scratchpad(guard: &Guard, dmem: &mut Spm, effect: &Option<Effect>)
     requires dmem { length dmem.old ≡ guard.now.size / 4 }
     requires fits { EffectFits effect.now }
     ensures words { dmem.new ≡ words_after guard.now.size effect.now dmem.old }

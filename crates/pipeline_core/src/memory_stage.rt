@@ -15,7 +15,7 @@ ghost use Rattle.pipeline_core.specs.Turns.{held};
 ghost use Rattle.pipeline_core.specs.StageFacts.{EffectFits, ExecutedFits, StoredFits};
 ghost use Rattle.pipeline_core.specs.StageFacts.{at_port, loads_port, uses_port};
 
-use crate::memory::{data_word, store_word};
+use crate::memory::{data_word, store_in_scratchpad};
 use crate::stage_register::StageRegister;
 use fp_ports::{Port, Ports, write_port};
 use hart_exec::{Sources, finish};
@@ -134,7 +134,7 @@ fn put_late(thread: u8, x: &Executed, effect: Option<Effect>, m: &mut StageRegis
 
 /// Applies a thread's effect to its port.
 #[inline(always)]
-fn put_word(ports: &mut Ports, thread: u8, effect: &Option<Effect>)
+fn store_at_port(ports: &mut Ports, thread: u8, effect: &Option<Effect>)
     requires eight { vec_len ports.old ≡ 8 }
     requires thread { thread < 8 }
     ensures rows { rows_of latched word_at ports.new.items ≡
@@ -182,7 +182,7 @@ fn access_issue(
         put_late(thread, x, effect, m);
         return;
     }
-    // A local `Store`: `store_word` and `put_word` then need no test of the variant.
+    // A local `Store`: `store_in_scratchpad` and `store_at_port` then need no test of the variant.
     if let Some(
         Effect::Store {
             address,
@@ -196,8 +196,8 @@ fn access_issue(
             size,
             value,
         });
-        store_word(guard, dmem, &effect);
-        put_word(ports, thread, &effect);
+        store_in_scratchpad(guard, dmem, &effect);
+        store_at_port(ports, thread, &effect);
     }
     put_same(thread, x, m);
 }
@@ -231,6 +231,6 @@ pub fn memory_stage(
     if e.is_issue() {
         access_issue(guard, imem, dmem, ports, cycle, e.turn, &e.what, m);
     } else {
-        m.pass(e);
+        m.take_turn(e);
     }
 }

@@ -1,20 +1,19 @@
 //! The turn that retires: its issue, its event and its place in `w`.
 
-ghost use Rattle.std.specs.Prelude.{◌≡◌, ◌-◌, ◌<◌, ◌≤◌, IfSome, Some, option_map};
-ghost use Rattle.pipe_model.specs.Stages.{event_at, retired_event};
+ghost use Rattle.std.specs.Prelude.{◌≡◌, ◌<◌, ◌≤◌, IfSome, Some, option_map};
+ghost use Rattle.pipe_model.specs.Stages.{event_at};
 ghost use Rattle.pipeline_core.specs.Turns.{held};
-ghost use Rattle.pipeline_core.specs.Retiring.{event_of};
+ghost use Rattle.pipeline_core.specs.Retiring.{event_of, retired_in};
 ghost use Rattle.pipeline_core.specs.StageFacts.{StoredFits};
 ghost use Rattle.rv_exec.specs.Line.{IsPrintable, IsPrintableEvent};
-ghost use Rattle.core_model.specs.Cycles.{cycles_to_w};
 
 use crate::stage_register::StageRegister;
 use core_model::CYCLES_TO_W;
 use pipe_model::Stored;
 use rv_exec::{Effect, Event};
 
-/// An issue that retires with an effect. The effect is read where it is, so that a cycle whose
-/// event nobody wants makes none.
+/// An issue that retires with an effect. It borrows the effect: a cycle whose event isn't needed
+/// then makes no event.
 #[derive(Clone, Copy, Drop)]
 pub struct Retired<'a> {
     /// The cycle of the issue.
@@ -73,8 +72,7 @@ impl StageRegister<Stored> {
     #[tactic(auto, unfolding(pipe_model::specs::Stages::retired_event))]
     pub fn retired(&self, cycle: u64) -> Option<Retired<'_>>
         requires { StoredFits (held self.now) }
-        ensures event { option_map event_of result
-            ≡ retired_event (cycle - cycles_to_w) (held self.now) }
+        ensures event { option_map event_of result ≡ retired_in cycle self.now }
         ensures cycle { IfSome result (λ r. r.cycle ≤ cycle) }
         ensures thread { IfSome result (λ r. r.thread < 8) }
         ensures printable { IfSome result (λ r. IsPrintable r.effect.now) }
@@ -89,7 +87,7 @@ impl StageRegister<Stored> {
     #[inline(always)]
     pub fn event(&self, cycle: u64) -> Option<Event>
         requires { StoredFits (held self.now) }
-        ensures event { result ≡ retired_event (cycle - cycles_to_w) (held self.now) }
+        ensures event { result ≡ retired_in cycle self.now }
         ensures printable { IsPrintableEvent result }
     {
         match self.retired(cycle) {

@@ -3,7 +3,7 @@
 ghost use Rattle.std.specs.Prelude.{◌≡◌, ◌<◌, true, false};
 ghost use Rattle.pipe_model.specs.declared.stage_registers.Held.TheVariants.{Bubble, Flushed};
 ghost use Rattle.pipe_model.specs.declared.stage_registers.Held.TheVariants.{Issue};
-ghost use Rattle.pipeline_core.specs.Turns.{HasThread, held, is_bubble, is_issue, passed};
+ghost use Rattle.pipeline_core.specs.Turns.{HasThread, held, is_bubble, is_issue, next_turn};
 
 use pipe_model::Held;
 
@@ -15,8 +15,8 @@ const FLUSHED: u8 = 8;
 const BUBBLE: u8 = 16;
 
 /// A stage register as the stages use it: the same as [`Held`], with the kind of its turn and its
-/// thread in one byte. A stage reads and writes that byte in every cycle, and tells by one
-/// comparison whether the turn is an issue of a given thread.
+/// thread in one byte. A stage reads and writes that byte in every cycle, and needs one
+/// comparison to find whether the turn is an issue of a given thread.
 #[derive(Drop)]
 pub struct StageRegister<T> {
     /// The thread of an issue, 8 more than the thread of a flushed turn, or 16 for a bubble.
@@ -72,9 +72,9 @@ impl<T: Copy> StageRegister<T> {
 
     /// Takes the turn of the stage register before it, which isn't an issue.
     #[inline(always)]
-    pub(crate) fn pass<U>(&mut self, before: &StageRegister<U>)
+    pub(crate) fn take_turn<U>(&mut self, before: &StageRegister<U>)
         requires { is_issue (held before.now) ≡ false }
-        ensures { held self.new ≡ passed (held before.now) }
+        ensures { held self.new ≡ next_turn (held before.now) }
     {
         self.turn = before.turn;
     }

@@ -9,7 +9,7 @@ ghost use Rattle.pipeline_core.specs.StageFacts.{RedirectFits, FetchedFits-prop}
 ghost use Rattle.pipeline_core.specs.StageFacts.{DecodedFits-prop, ExecutedFits-prop};
 ghost use Rattle.pipeline_core.specs.StageFacts.{StoredFits-prop};
 ghost use Rattle.pipeline_core.specs.Turns.{held, is_bubble};
-ghost use Rattle.core_model.specs.Cycles.{cycles_to_d, cycles_to_m, cycles_to_w};
+ghost use Rattle.core_model.specs.Cycles.{cycles_to_m};
 
 use crate::decode::decode_stage;
 use crate::execute::execute_stage;
@@ -52,7 +52,7 @@ const NOT_STORED: Stored = Stored {
     effect: None,
 };
 
-/// The stage registers as the stages use them: a [`Pipe`] with two changes. One byte tells the kind
+/// The stage registers as the stages use them: a [`Pipe`] with two changes. One byte has the kind
 /// of a turn and its thread. `w` is left out, since no stage reads it. A loop over cycles works on
 /// them. The conditions on threads, pcs, effects and addresses are those of [`Pipe`].
 #[derive(Drop)]
@@ -75,20 +75,21 @@ pub struct Stages {
 }
 
 impl Stages {
-    ghost use Rattle.std.specs.Prelude.{◌<◌, ◌-◌, ◌&&◌, if◌then◌else◌, true, false, List};
-    ghost use Rattle.std.specs.Prelude.{Option, Some, None, vec_len};
-    ghost use Rattle.fp_ports.specs.PluggedPorts.{Row, rows_of};
+    ghost use Rattle.std.specs.Prelude.{◌<◌, ◌-◌, ◌&&◌, true, false};
+    ghost use Rattle.std.specs.Prelude.{vec_len};
+    ghost use Rattle.fp_ports.specs.PluggedPorts.{rows_of};
     ghost use Rattle.slot_scheduler.specs.Picking.{IsPick};
-    ghost use Rattle.timer_unit.specs.Time.{time};
     ghost use Rattle.pipe_model.specs.declared.stage_registers.Held.{Held};
     ghost use Rattle.pipe_model.specs.declared.stage_registers.Written.{Written};
-    ghost use Rattle.pipe_model.specs.Stages.{next_after_fetch, bank_after, decode_stage};
-    ghost use Rattle.pipe_model.specs.Stages.{fetch_stage, memory_stage, ports_stored};
-    ghost use Rattle.pipe_model.specs.Stages.{next_after_redirect, retired_event};
+    ghost use Rattle.pipe_model.specs.Stages.{bank_after, memory_stage, ports_stored};
+    ghost use Rattle.pipe_model.specs.Stages.{next_after_redirect};
     ghost use Rattle.pipe_model.specs.Stages.{step, words_stored, writeback_stage};
     ghost use Rattle.pipe_model.specs.PipelineLaws.{empty};
     ghost use Rattle.pipeline_core.specs.StageFacts.{uses_port};
-    ghost use Rattle.pipeline_core.specs.Abstraction.{executed_by, registers_in};
+    ghost use Rattle.pipeline_core.specs.Executing.{Executes, redirect_if};
+    ghost use Rattle.pipeline_core.specs.YoungerStages.{DecodesAndFetches};
+    ghost use Rattle.pipeline_core.specs.Retiring.{retired_in};
+    ghost use Rattle.pipeline_core.specs.Abstraction.{registers_in};
     ghost use Rattle.pipeline_core.specs.Abstraction.{abstract_stages, abstract_state, ticked_with};
 
     /// The stage registers of a pipeline.
@@ -156,8 +157,7 @@ impl Stages {
         requires eight { vec_len ports.old ≡ 8 }
         ensures step { (w : Held Written) → ticked_with
             (registers_in self.new (writeback_stage (held self.old.m))) units.new
-            (rows_of latched word_at ports.new.items)
-            (retired_event (cycle - cycles_to_w) (held self.old.m)) ≡
+            (rows_of latched word_at ports.new.items) (retired_in cycle self.old.m) ≡
             step (registers_in self.old w) (abstract_state units.old
             (rows_of latched word_at ports.old.items)) cycle }
         ensures idle { uses_port units.old.guard.size (held self.old.e) ≡ false
@@ -216,14 +216,8 @@ impl Stages {
     #[inline(always)]
     fn execute<LOOP>(&mut self, units: &mut Units, cycle: u64, redirect: &mut Redirect) -> bool
         requires cycle { cycle < most_cycles }
-        ensures e { held self.new.e ≡ (executed_by units.old cycle (held self.old.d)).e }
-        ensures redirect { (executed_by units.old cycle (held self.old.d)).redirect
-            ≡ (if result then Some redirect.new else None) }
-        ensures units { (ports : List (Option Row)) → abstract_state units.new ports
-            ≡ record (abstract_state units.old ports) {
-              control = (executed_by units.old cycle (held self.old.d)).control;
-            } }
-        ensures fits { RedirectFits (if result then Some redirect.new else None) }
+        ensures executed { Executes units.old units.new cycle (held self.old.d) (held self.new.e)
+            (redirect_if result redirect.new) }
         ensures next { self.new.next ≡ self.old.next }
         ensures f { self.new.f ≡ self.old.f }
         ensures d { self.new.d ≡ self.old.d }
@@ -245,40 +239,31 @@ impl Stages {
     )
         requires cycle { cycle < most_cycles }
         requires pick { IsPick pick }
-        requires fits { RedirectFits (if redirects then Some redirect else None) }
-        ensures d { let told = if redirects then Some redirect else None in
-            held self.new.d ≡ decode_stage units.now.bank (held self.old.m) (held self.old.e)
-            units.now.timers told (time units.now.clock (cycle - cycles_to_d)) (held self.old.f) }
-        ensures f { let told = if redirects then Some redirect else None in held self.new.f ≡
-            fetch_stage units.now.guard.size units.now.imem told
-            (next_after_redirect told self.old.next) pick }
-        ensures next { let told = if redirects then Some redirect else None in self.new.next ≡
-            next_after_fetch told pick (next_after_redirect told self.old.next) }
-        ensures e { self.new.e ≡ self.old.e }
-        ensures m { self.new.m ≡ self.old.m }
+        requires fits { RedirectFits (redirect_if redirects redirect) }
+        ensures { let flush = redirect_if redirects redirect in DecodesAndFetches units.now cycle
+            pick flush (next_after_redirect flush self.old.next) self.old self.new }
     {
         if redirects {
             redirect_to(&mut self.next, redirect);
-            self.follow(units, Some(redirect), pick, cycle);
+            self.decode_and_fetch(units, Some(redirect), pick, cycle);
         } else {
-            self.follow(units, None, pick, cycle);
+            self.decode_and_fetch(units, None, pick, cycle);
         }
     }
 
     /// D and F, from the results of the older stages. Inlined at both of its calls: in most cycles
     /// there is no redirect, and that copy doesn't test for one.
     #[inline(always)]
-    fn follow(&mut self, units: &Units, redirect: Option<Redirect>, pick: Pick, cycle: u64)
+    fn decode_and_fetch(
+        &mut self,
+        units: &Units,
+        redirect: Option<Redirect>,
+        pick: Pick,
+        cycle: u64,
+    )
         requires cycle { cycle < most_cycles }
         requires pick { IsPick pick }
-        ensures d { held self.new.d ≡ decode_stage units.now.bank (held self.old.m)
-            (held self.old.e) units.now.timers redirect
-            (time units.now.clock (cycle - cycles_to_d)) (held self.old.f) }
-        ensures f { held self.new.f ≡
-            fetch_stage units.now.guard.size units.now.imem redirect self.old.next pick }
-        ensures next { self.new.next ≡ next_after_fetch redirect pick self.old.next }
-        ensures e { self.new.e ≡ self.old.e }
-        ensures m { self.new.m ≡ self.old.m }
+        ensures { DecodesAndFetches units.now cycle pick redirect self.old.next self.old self.new }
     {
         decode_stage(
             units,

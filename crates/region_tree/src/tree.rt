@@ -26,7 +26,7 @@ pub enum TreeNo {
     TimedWait { address: u32 },
     /// A reachable word leads back to a word that is no head of a counting loop around it; the
     /// word's address.
-    #[error("a way back without a bound at {address:#010x}")]
+    #[error("a back edge without a bound at {address:#010x}")]
     UnboundedBackEdge { address: u32 },
     /// Out of memory.
     #[error("out of memory")]

@@ -16,9 +16,8 @@ use Rattle.region_tree.specs.declared.edges.Stop.TheVariants.{No}
 use Rattle.core_model.specs.World.{Start, contents, issue_of, recent, environment_at, thread_of}
 use Rattle.call_bounds.specs.declared.routines.Routine.{Routine}
 use Rattle.section_visits.proofs.Instructions.{Gone, issue-fetches, issue-goes}
-use Rattle.section_visits.proofs.Linking.{AreBelow, Went, all-below, below-at}
+use Rattle.section_visits.proofs.Linking.{Went}
 use Rattle.section_visits.proofs.Linking.{linked-after, linked-own, linked_all}
-use Rattle.section_visits.proofs.Scheduled.{always-set, quiet-keeps}
 use Rattle.section_visits.proofs.Links.{fetch-inside, stop-no}
 use Rattle.section_visits.specs.CallsInSettings.{CallVisitsAreBoundedInSettings, HasWordsOfParts}
 use Rattle.section_visits.specs.InSettings.{AreLinkedIn, IsSet, Throughout}
@@ -34,7 +33,7 @@ use Rattle.call_bounds.proofs.Parts.{AreParts}
 use Rattle.section_visits.specs.CallVisits.{ComesBack, StaysInFunctions}
 use Rattle.section_visits.specs.CallVisits.{KeepsCallBounds, KeepsReturns}
 use Rattle.section_visits.specs.CallVisits.{counted_after, counter_at, open_at}
-use Rattle.section_visits.specs.CallVisitBound.{CallVisitsAreBounded, HostsCalls, IsMet}
+use Rattle.section_visits.specs.CallVisitBound.{HostsCalls, IsMet}
 use Rattle.section_visits.proofs.Returns.{issue-returns}
 use Rattle.section_visits.proofs.CallVisited.{Way, ends, goes}
 
@@ -271,17 +270,9 @@ call_visits_in_settings x slots thread b s n is ok most host last before here v 
     (last ∷ (before ++ v.earlier)) links) here v.starts v.goes_on comes keeps
     (lies-or (part x (part_in x (open_at x before))) last.pc)
 
-words-of : (s : Start) (x : Calls) (slots thread : ℕ) → IsListing x → HostsCalls s x slots thread →
-    HasWordsOfParts s x
+pub words-of : (s : Start) (x : Calls) (slots thread : ℕ) → IsListing x →
+    HostsCalls s x slots thread → HasWordsOfParts s x
 words-of s x slots thread is h = record {
   eight = h.eight;
   same_words = λ u m lt. h.same_words u (part-aligned x m.within u is m.reached m.word) m lt;
 }
-
-pub call-visits-from : CallVisitsAreBoundedInSettings → CallVisitsAreBounded
-call-visits-from law x slots thread b s n is ok most host quiet last before v comes keeps =
-    let end : last.cycle < n = below-at n v.later last (before ++ v.earlier)
-    (subst (λ l. AreBelow n l) v.among (all-below s thread n)) in
-    law x slots thread b s n is ok most (words-of s x slots thread is host) last before
-    (λ c low high. always-set s slots thread n host.same_slots host.hard (quiet-keeps s n quiet) c
-    (let below : c < n = omega arith in below)) v comes keeps

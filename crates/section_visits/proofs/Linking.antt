@@ -307,6 +307,11 @@ pub below-at : (n : ℕ) (later : List Issued) (a : Issued) (l : List Issued) �
 below-at n [] a l h = h.0
 below-at n (b ∷ later) a l h = below-at n later a l h.1
 
+pub issues-earlier : (s : Start) (i n : ℕ) (later : List Issued) (last : Issued)
+    (rest : List Issued) → issues_of i (world s n).turns ≡ later ++ (last ∷ rest) → last.cycle < n
+issues-earlier s i n later last rest among =
+    below-at n later last rest (subst (λ l. AreBelow n l) among (all-below s i n))
+
 -- a setting that holds in cycle c is the one that picking uses in it
 pub set-at : (s : Start) (slots i c : ℕ) → IsSet s slots i c → IsHardAt s slots i c
 set-at s slots i c here = subst (λ w. IsHardBy slots i w.registers) (sym (earlier_is s c)) here

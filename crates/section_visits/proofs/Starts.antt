@@ -1,6 +1,6 @@
 -- The theorems on visits of the machines of setups, from those on starts.
 use Rattle.std.proofs.Common.{◌≡◌, ◌⊎◌, inl, inr, ℕ, ◌+◌, ◌-◌, ◌*◌, ◌/◌, ◌%◌, ◌<◌, ◌≤◌, Bool}
-use Rattle.std.proofs.Common.{true, false, List, ◌∷◌, ◌++◌, refl, ap, sym, ◌∙◌, subst, arith, map}
+use Rattle.std.proofs.Common.{true, false, List, refl, ap, sym, ◌∙◌, arith, map}
 use Rattle.std.specs.Prelude.{if◌then◌else◌, nat_lt, slice_index_or}
 use Rattle.std.specs.List.{range_with_len}
 use Rattle.std.proofs.Math.Nat.{mod-eq_of_lt}
@@ -21,16 +21,12 @@ use Rattle.setup_model.specs.Start.{start, words_from}
 use Rattle.core_model.specs.Phased.{phase_at}
 use Rattle.core_model.specs.SettingLaws.{SettingsOfPicks}
 use Rattle.run_laws.specs.TraceLaws.{Machine, phases_in}
-use Rattle.section_visits.proofs.Linking.{AreBelow, all-below, below-at}
-use Rattle.section_visits.proofs.Scheduled.{always-set, quiet-keeps}
+use Rattle.section_visits.proofs.Scheduled.{always-set}
 use Rattle.section_visits.specs.InSettings.{HasWords, VisitsAreBoundedInSettings}
 use Rattle.section_visits.specs.SetupInSettings.{HasSameWords, IsHardPhase, IsSetIn}
 use Rattle.section_visits.specs.SetupInSettings.{KeepsScheduling, StartsHard}
-use Rattle.section_visits.specs.SetupInSettings.{VisitsStayBoundedByPhases}
 use Rattle.section_visits.specs.SetupInSettings.{VisitsStayBoundedInSettings}
-use Rattle.section_visits.specs.SetupInSettings.{VisitsStayBoundedWhileScheduled}
-use Rattle.section_visits.specs.SetupVisitBound.{VisitsStayBounded, issues, tree_in}
-use Rattle.section_visits.specs.Visits.{Issued}
+use Rattle.section_visits.specs.SetupVisitBound.{IsAlike, tree_in}
 
 -- a word of the instruction scratchpad at the start
 pub code-word : (image : List Segment) (size u : ℕ) → size % 4 ≡ 0 → u % 4 ≡ 0 → u < size →
@@ -99,11 +95,6 @@ phase-sets law m slots i n c up h =
       hard = ap (λ (z : ℕ). mode_of z i) (sym same.modes) ∙ h.hard;
     }
 
-pub visits_by_phases : VisitsStayBoundedInSettings → SettingsOfPicks → VisitsStayBoundedByPhases
-visits_by_phases law picks setup image s slots i b m n is most rules h last before up here v keeps =
-    law setup image s slots i b m n is most rules h last before (λ c low high. phase-sets picks m
-    slots i n c (let le : c ≤ n - 4 + 2 = omega arith in le) (here c low high)) v keeps
-
 -- without writes of slots and modes, each cycle of a run has the setting of the start
 pub start-sets : (m : Machine) (slots i n : ℕ) → StartsHard m i slots → KeepsScheduling m n →
     (c : ℕ) → c < n → IsSetIn m i slots n c
@@ -111,24 +102,10 @@ unfolding start
 start-sets m slots i n h kept =
     always-set (start m.setup m.image m.ports n) slots i n h.same_slots h.hard kept
 
--- the issues of n cycles are in these cycles
-pub end-below : (m : Machine) (i n : ℕ) (later : List Issued) (last : Issued) (rest : List Issued) →
-    issues m i n ≡ later ++ (last ∷ rest) → last.cycle < n
-end-below m i n later last rest among =
-    below-at n later last rest
-    (subst (λ l. AreBelow n l) among (all-below (start m.setup m.image m.ports n) i n))
-
-pub visits_while_scheduled : VisitsStayBoundedInSettings → VisitsStayBoundedWhileScheduled
-visits_while_scheduled law setup image s slots i b m n
-    is most rules starts h kept last before v keeps =
-    let end : last.cycle < n = end-below m i n v.later last (before ++ v.earlier) v.among in
-    law setup image s slots i b m n is most rules h last before (λ c low high.
-    start-sets m slots i n starts kept c (let below : c < n = omega arith in below)) v keeps
-
-pub visits_stay_bounded : VisitsStayBoundedWhileScheduled → VisitsStayBounded
-visits_stay_bounded law setup image s i b m n is most rules h quiet last before v keeps =
-    law setup image s setup.slots i b m n is most rules
-    (record { same_slots = h.same_slots; hard = h.hard })
-    (λ u reach. let l = reachable-lies (tree_in setup image s) is.draft u reach in
-    h.same_words u (reachable-aligned (tree_in setup image s) is.draft u reach) l.low l.high)
-    (quiet-keeps (start m.setup m.image m.ports n) n quiet) last before v keeps
+-- equal words of a section are equal at its reachable words
+pub alike-section : (setup : Settings) (image : List Segment) (s : Section) (m : Machine)
+    (i slots : ℕ) → IsTree (tree_in setup image s) → IsAlike m i slots image s →
+    HasSameWords m (tree_in setup image s) image
+alike-section setup image s m i slots is h u reach =
+    let l = reachable-lies (tree_in setup image s) is.draft u reach in
+    h.same_words u (reachable-aligned (tree_in setup image s) is.draft u reach) l.low l.high

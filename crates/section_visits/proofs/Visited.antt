@@ -9,12 +9,10 @@ use Rattle.region_tree.specs.Walk.{CostsOf, Course, IsStep, IsWalk}
 use Rattle.region_tree.specs.Walk.{Step, cost, counter_after, counter}
 use Rattle.region_tree.specs.Walk.CostsOf.{ends, leaves}
 use Rattle.bound_calc.specs.Bound.{course}
-use Rattle.section_visits.proofs.Links.{words-of}
-use Rattle.section_visits.proofs.Linking.{AreBelow, all-below, below-at, linked-after, linked-own}
-use Rattle.section_visits.proofs.Scheduled.{always-set, quiet-keeps}
+use Rattle.section_visits.proofs.Linking.{linked-after, linked-own}
 use Rattle.section_visits.specs.InSettings.{AreLinkedIn, IsSet, IssuesFollowEdgesInSettings}
 use Rattle.section_visits.specs.InSettings.{Throughout, VisitsAreBoundedInSettings}
-use Rattle.section_visits.specs.VisitBound.{Along, EdgeOf, VisitsAreBounded}
+use Rattle.section_visits.specs.VisitBound.{Along, EdgeOf}
 use Rattle.section_visits.specs.Visits.{StaysInSection, Issued, KeepsBounds, counter_at, first_of}
 
 -- the edges of a course, as a relation
@@ -170,11 +168,3 @@ visits_in_settings law t slots thread b s n is most words last before here v kee
     bounded (IsSet s slots thread) x b most last before v.earlier
     (linked-after (IsSet s slots thread) (Reachable x.graph) (EdgeOf x.graph) x.positions v.later
     (last ∷ (before ++ v.earlier)) links) here v.starts v.goes_on keeps (lies-or (graph t) last.pc)
-
-pub visits-from : VisitsAreBoundedInSettings → VisitsAreBounded
-visits-from law t slots thread b s n is most host quiet last before v keeps =
-    let end : last.cycle < n = below-at n v.later last (before ++ v.earlier)
-    (subst (λ l. AreBelow n l) v.among (all-below s thread n)) in
-    law t slots thread b s n is most (words-of t slots thread s is host) last before
-    (λ c low high. always-set s slots thread n host.same_slots host.hard (quiet-keeps s n quiet) c
-    (let below : c < n = omega arith in below)) v keeps

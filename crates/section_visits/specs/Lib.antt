@@ -7,3 +7,4 @@ pub mod SetupCallVisitBound
 pub mod InSettings
 pub mod CallsInSettings
 pub mod SetupInSettings
+pub mod Premises

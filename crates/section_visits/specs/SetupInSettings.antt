@@ -1,13 +1,12 @@
--- Bounds for the machines of setups, images and ports: of a visit during which the slots and the
--- thread's mode don't change; and of all visits, while no issue writes slots or modes.
-use Rattle.std.specs.Prelude.{◌≡◌, ℕ, ◌+◌, ◌-◌, ◌≤◌, true, List}
+-- Bounds for the machines of setups, images and ports, of a visit during which the slots and the
+-- thread's mode don't change. Premises.antt has simpler premises.
+use Rattle.std.specs.Prelude.{◌≡◌, ℕ, ◌-◌, ◌≤◌, true, List}
 use Rattle.fp_image.specs.Rules.{word}
 use Rattle.fp_image.specs.declared.parts.Segment.{Segment}
 use Rattle.fp_setup.specs.Rules.{KeepsRules}
 use Rattle.fp_setup.specs.Settings.{Settings}
 use Rattle.slot_scheduler.specs.ModeWord.{mode_of}
 use Rattle.core_model.specs.declared.phase.Phase.{Phase}
-use Rattle.core_model.specs.Phased.{phase_at}
 use Rattle.core_model.specs.Phases.{keeps_scheduling}
 use Rattle.region_tree.specs.Graph.{Reachable}
 use Rattle.region_tree.specs.Tree.{IsTree, Tree, graph}
@@ -18,14 +17,13 @@ use Rattle.call_bounds.specs.CallRefusals.{IsCallable, IsListing}
 use Rattle.call_bounds.specs.CallWalk.{CostsOf as CallCostsOf, route}
 use Rattle.call_bounds.specs.Calls.{Calls}
 use Rattle.setup_model.specs.Start.{start}
-use Rattle.run_laws.specs.TraceLaws.{Machine, phases_in}
+use Rattle.run_laws.specs.TraceLaws.{Machine}
 use Rattle.section_visits.specs.CallVisitBound.{IsMet}
 use Rattle.section_visits.specs.CallVisits.{IsCallVisit, KeepsReturns}
 use Rattle.section_visits.specs.CallVisits.{KeepsCallBounds}
 use Rattle.section_visits.specs.InSettings.{IsSet, Throughout}
 use Rattle.section_visits.specs.SetupVisitBound.{issues, tree_in}
 use Rattle.section_visits.specs.Visits.{Issued, IsVisit, KeepsBounds, first_of}
-use Rattle.core_model.specs.Cycles.{cycles_to_e, cycles_to_w}
 
 -- the image of the machine has the same reachable words of a section as another image
 abbrev pub HasSameWords : Machine → Tree → List Segment → Type 0
@@ -67,59 +65,12 @@ VisitsStayBoundedInSettings =
     KeepsBounds (tree_in setup image s).loops last before →
     last.cycle - (first_of last before).cycle ≤ b
 
--- the same by the settings that `phases` writes for n cycles, for a visit that ends two cycles
--- before
-abbrev pub VisitsStayBoundedByPhases : Type 0
-VisitsStayBoundedByPhases =
-    (setup : Settings) (image : List Segment) (s : Section) (slots i b : ℕ) (m : Machine) (n : ℕ) →
-    IsTree (tree_in setup image s) →
-    ((c : ℕ) → CostsOf (course (tree_in setup image s) slots i) c → c ≤ b) →
-    KeepsRules m.setup → HasSameWords m (tree_in setup image s) image →
-    (last : Issued) (before : List Issued) → last.cycle ≤ n - cycles_to_w + cycles_to_e →
-    Throughout (λ c. IsHardPhase slots i (phase_at (phases_in m n) c))
-    (first_of last before).cycle last.cycle → IsVisit (graph (tree_in setup image s))
-    (issues m i n) last before → KeepsBounds (tree_in setup image s).loops last before →
-    last.cycle - (first_of last before).cycle ≤ b
-
--- The same for all visits by a thread that starts hard and active, with the slots of the start. No
--- issue may write slots or modes.
-abbrev pub VisitsStayBoundedWhileScheduled : Type 0
-VisitsStayBoundedWhileScheduled =
-    (setup : Settings) (image : List Segment) (s : Section) (slots i b : ℕ) (m : Machine) (n : ℕ) →
-    IsTree (tree_in setup image s) →
-    ((c : ℕ) → CostsOf (course (tree_in setup image s) slots i) c → c ≤ b) →
-    KeepsRules m.setup → StartsHard m i slots → HasSameWords m (tree_in setup image s) image →
-    KeepsScheduling m n → (last : Issued) (before : List Issued) →
-    IsVisit (graph (tree_in setup image s)) (issues m i n) last before →
-    KeepsBounds (tree_in setup image s).loops last before →
-    last.cycle - (first_of last before).cycle ≤ b
-
--- the three for call visits with matching returns, and paths with matching calls and returns
+-- the same for call visits with matching returns, and paths with matching calls and returns
 abbrev pub CallVisitsStayBoundedInSettings : Type 0
 CallVisitsStayBoundedInSettings =
     (x : Calls) (slots i b : ℕ) (m : Machine) (n : ℕ) → IsListing x →
     IsCallable x → ((c : ℕ) → CallCostsOf (route x slots i) c → c ≤ b) →
     KeepsRules m.setup → HasSameWordsOfParts m x → (last : Issued) (before : List Issued) →
     Throughout (IsSetIn m i slots n) (first_of last before).cycle last.cycle →
-    IsCallVisit x (issues m i n) last before → KeepsReturns x last before →
-    KeepsCallBounds x last before → last.cycle - (first_of last before).cycle ≤ b
-
-abbrev pub CallVisitsStayBoundedByPhases : Type 0
-CallVisitsStayBoundedByPhases =
-    (x : Calls) (slots i b : ℕ) (m : Machine) (n : ℕ) → IsListing x →
-    IsCallable x → ((c : ℕ) → CallCostsOf (route x slots i) c → c ≤ b) →
-    KeepsRules m.setup → HasSameWordsOfParts m x → (last : Issued) (before : List Issued) →
-    last.cycle ≤ n - cycles_to_w + cycles_to_e →
-    Throughout (λ c. IsHardPhase slots i (phase_at (phases_in m n) c))
-    (first_of last before).cycle last.cycle → IsCallVisit x (issues m i n) last before →
-    KeepsReturns x last before → KeepsCallBounds x last before →
-    last.cycle - (first_of last before).cycle ≤ b
-
-abbrev pub CallVisitsStayBoundedWhileScheduled : Type 0
-CallVisitsStayBoundedWhileScheduled =
-    (x : Calls) (slots i b : ℕ) (m : Machine) (n : ℕ) → IsListing x →
-    IsCallable x → ((c : ℕ) → CallCostsOf (route x slots i) c → c ≤ b) →
-    KeepsRules m.setup → StartsHard m i slots → HasSameWordsOfParts m x → KeepsScheduling m n →
-    (last : Issued) (before : List Issued) →
     IsCallVisit x (issues m i n) last before → KeepsReturns x last before →
     KeepsCallBounds x last before → last.cycle - (first_of last before).cycle ≤ b

@@ -1,14 +1,15 @@
--- The bound of a section bounds the runs of a machine.
+-- In a quiet run the issues of a thread follow the edges of a section, as in InSettings.antt while
+-- slots and mode stay.
 use Rattle.std.specs.Prelude.{◌≡◌, ℕ, ◌-◌, ◌%◌, ◌<◌, ◌≤◌, true}
 use Rattle.std.specs.Prelude.{false, List, [], ◌∷◌, length, Contains}
 use Rattle.core_model.specs.Memory.{code_at}
 use Rattle.region_tree.specs.Graph.{Edge, Graph, Lies, Reachable}
 use Rattle.region_tree.specs.Tree.{IsTree, Tree, graph, word_at}
-use Rattle.region_tree.specs.Walk.{CostsOf, Course, IsNextTurn, IsOwn, Positions}
+use Rattle.region_tree.specs.Walk.{Course, IsNextTurn, IsOwn, Positions}
 use Rattle.slot_scheduler.specs.ModeWord.{mode_of}
 use Rattle.bound_calc.specs.Bound.{course}
 use Rattle.core_model.specs.World.{Start, is_quiet, world}
-use Rattle.section_visits.specs.Visits.{Issued, IsVisit, KeepsBounds, first_of, issues_of}
+use Rattle.section_visits.specs.Visits.{Issued, issues_of}
 
 -- A machine with these slots, where the thread is hard and active at the start. The section has the
 -- same words, as far as the scratchpad goes. The other threads' code, the rights of all threads and
@@ -54,14 +55,3 @@ abbrev pub IssuesFollowEdges : Type 0
 IssuesFollowEdges =
     (t : Tree) (slots thread : ℕ) (s : Start) (n : ℕ) → IsTree t → HostsSection s t slots thread →
     is_quiet s n ≡ true → FollowEdges (course t slots thread) (issues_of thread (world s n).turns)
-
--- Take a visit of the section in a quiet run of such a machine. It keeps the stated bounds of the
--- section's loops. It takes no longer than any upper bound on the cost of the section's paths. A
--- visit is measured from its first issue to its last.
-abbrev pub VisitsAreBounded : Type 0
-VisitsAreBounded =
-    (t : Tree) (slots thread b : ℕ) (s : Start) (n : ℕ) → IsTree t →
-    ((c : ℕ) → CostsOf (course t slots thread) c → c ≤ b) →
-    HostsSection s t slots thread → is_quiet s n ≡ true → (last : Issued) (before : List Issued) →
-    IsVisit (graph t) (issues_of thread (world s n).turns) last before →
-    KeepsBounds t.loops last before → last.cycle - (first_of last before).cycle ≤ b

@@ -1,6 +1,6 @@
 -- The issues of one thread in a run, and its visits of a section of code.
 use Rattle.std.specs.Prelude.{◌≡◌, ◌⊎◌, ℕ, ◌==◌, ◌≤◌, Bool, true, false, if◌then◌else◌}
-use Rattle.std.specs.Prelude.{Option, Some, List, [], ◌∷◌, ◌++◌, length, Contains}
+use Rattle.std.specs.Prelude.{List, [], ◌∷◌, ◌++◌, length, Contains}
 use Rattle.core_model.specs.Traps.{is_trap}
 use Rattle.fp_setup.specs.declared.loop_list.LoopSetup.{LoopSetup}
 use Rattle.region_tree.specs.Graph.{Graph, Lies}

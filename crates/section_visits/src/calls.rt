@@ -1,8 +1,7 @@
 //! The bound of a section with routines bounds runs: no visit of the section takes longer, with the
-//! routines that it calls. The contract of each call is a theorem; the call does nothing. The
-//! statements are in specs/CallsInSettings.antt and specs/CallVisitBound.antt.
+//! routines that it calls. The contract of the call is a theorem; it does nothing. The statement
+//! is in specs/CallsInSettings.antt.
 
-ghost use Rattle.section_visits.specs.CallVisitBound.{CallVisitsAreBounded};
 ghost use Rattle.section_visits.specs.CallsInSettings.{CallVisitsAreBoundedInSettings};
 
 /// A call visit takes no longer than an upper bound on the cost of the section's paths with
@@ -12,12 +11,3 @@ ghost use Rattle.section_visits.specs.CallsInSettings.{CallVisitsAreBoundedInSet
 pub fn stays_bounded_in_settings()
     ensures { CallVisitsAreBoundedInSettings }
 {}
-
-/// In a quiet run no call visit of a hard thread exceeds an upper bound on the cost of the
-/// section's paths with matching calls and returns. This holds if the visit's returns match its
-/// calls, and it keeps the stated bounds of the loops of reached functions.
-pub fn stays_bounded()
-    ensures { CallVisitsAreBounded }
-{
-    stays_bounded_in_settings();
-}

@@ -5,5 +5,6 @@
 #![tactic(auto)]
 
 pub mod calls;
+pub mod premises;
 pub mod sections;
 pub mod setups;

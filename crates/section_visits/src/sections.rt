@@ -4,7 +4,7 @@
 
 ghost use Rattle.section_visits.specs.InSettings.{IssuesFollowEdgesInSettings};
 ghost use Rattle.section_visits.specs.InSettings.{VisitsAreBoundedInSettings};
-ghost use Rattle.section_visits.specs.VisitBound.{IssuesFollowEdges, VisitsAreBounded};
+ghost use Rattle.section_visits.specs.VisitBound.{IssuesFollowEdges};
 
 /// While picking uses the same slots, and a thread is hard and active, its issues follow the edges
 /// of the section. Each is at the thread's first turn after the edge's lag.
@@ -28,12 +28,4 @@ pub fn follows_edges()
     ensures { IssuesFollowEdges }
 {
     follows_edges_in_settings();
-}
-
-/// In a quiet run no visit of a hard thread exceeds an upper bound on the cost of the section's
-/// paths, if it keeps the stated bounds of the section's loops.
-pub fn stays_bounded()
-    ensures { VisitsAreBounded }
-{
-    stays_bounded_in_settings();
 }

@@ -31,8 +31,8 @@ use Rattle.timer_unit.specs.Time.{no_timer}
 use Rattle.trap_unit.specs.Access.{guard_after}
 use Rattle.trap_unit.specs.Rows.{no_trap}
 use Rattle.hart_exec.specs.declared.hart.Hart.{Hart}
-use Rattle.hart_exec.specs.declared.outcome.ExecResult.{ExecResult}
-use Rattle.hart_exec.specs.Units.{Refines, Units, environment_of, abstract_result}
+use Rattle.hart_exec.specs.declared.result.ExecResult.{ExecResult}
+use Rattle.hart_exec.specs.Units.{RefinesExecution, Units, environment_of, abstract_result}
 use Rattle.hart_exec.specs.Units.{guard_by, row_of, units_after, units_of}
 use Rattle.solo_run.proofs.OwnStore.{kind-is}
 
@@ -261,13 +261,15 @@ without_permit h permit csr = rw permit refl
 
 pub guard_alone : (h g : Hart) (x : ExecResult) (pc : ℕ) (t : Own) (expired : Bool) (w p q : ℕ) →
     h.permit ≡ false →
-    Refines h g x (execute_in (environment_of h) pc t expired w p q) → g.guard.now ≡ h.guard.now
+    RefinesExecution h g x (execute_in (environment_of h) pc t expired w p q) →
+    g.guard.now ≡ h.guard.now
 guard_alone h g x pc t expired w p q permit r =
     ap (λ (u : Units). u.guard) r.units
     ∙ (stays h.guard.now (environment_of h) pc t expired w p q (without_permit h permit)).0
 
 pub lag_alone : (h g : Hart) (x : ExecResult) (pc : ℕ) (t : Own) (expired : Bool) (w p q : ℕ) →
-    h.permit ≡ false → Refines h g x (execute_in (environment_of h) pc t expired w p q) → x.lag ≤ 3
+    h.permit ≡ false →
+    RefinesExecution h g x (execute_in (environment_of h) pc t expired w p q) → x.lag ≤ 3
 lag_alone h g x pc t expired w p q permit r =
     rw (ap (λ (d : Execution). d.lag) r.did)
     (stays h.guard.now (environment_of h) pc t expired w p q (without_permit h permit)).1
@@ -276,7 +278,7 @@ lag_alone h g x pc t expired w p q permit r =
 pub did_alone : (h g : Hart) (x : ExecResult) (pc : ℕ) (t : Own) (expired : Bool) (w p q : ℕ) →
     h.thread < 8 → h.confined ≡ true → h.permit ≡ false → h.thread < length h.timers.now →
     h.thread < length h.traps.now → h.thread < length h.sched.now.sleep →
-    Refines h g x (execute_in (environment_of h) pc t expired w p q) →
+    RefinesExecution h g x (execute_in (environment_of h) pc t expired w p q) →
     abstract_result (row_of h.thread (units_of g)) x
     ≡ execute_in (environment_by h.thread h.guard.now.size (region_kinds h.thread h.guard.now.i)
     (region_kinds h.thread h.guard.now.d) h.time) pc t expired w p q

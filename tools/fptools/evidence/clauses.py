@@ -3,10 +3,12 @@
     from fptools.evidence.clauses import Crates
 
     crates = Crates(Path("."))
-    clause = crates.clause("crates/flexpret_top/src/command.rt", "flexpret", "visits")
+    clause = crates.clause("crates/flexpret_top/src/command.rt", "flexpret", "outcome")
     print(clause.text, len(crates.closure([clause])))
+    field = crates.field(clause, "KnownOutcome.visits")
 
-A clause is one `ensures NAME { .. }` of a function in a `.rt` file. Its names lead, by the imports
+A clause is one `ensures NAME { .. }` of a function in a `.rt` file. Where it cites a record, a field
+of the record can be taken by itself. Its names lead, by the imports
 of its file, to definitions: those in the `specs/` of a crate, and the types and traits of its
 `src/`. These lead to others. Names of the kit's own libraries lead nowhere here: the kit is
 trusted."""
@@ -24,6 +26,7 @@ DECLARATION = re.compile(
     r"^(?:(?:abbrev|unfoldable) (?:pub )?|pub (?:record|data) |record |data )([^\W\d][\w'-]*)"
 )
 ITEM = re.compile(r"^pub (?:struct|enum|trait|type|const) ([^\W\d]\w*)")
+FIELD = re.compile(r"^  (?:pub )?([^\W\d]\w*) :")
 NAME = re.compile(r"[^\W\d][\w'-]*")
 COMMENT = re.compile(r"(?:--|//).*")
 
@@ -57,6 +60,8 @@ class Clause:
     line: int
     text: str  # as its file has it, without the common indent
     premises: tuple[str, ...]  # the function's `requires` clauses
+    around: str = ""  # of a record's field: the clause that cites the record
+    also: tuple[Definition, ...] = ()  # of a field: what that clause names besides its records
 
 
 @dataclass(frozen=True)
@@ -119,6 +124,28 @@ class Crates:
         premises = tuple(it[3] for it in clauses_of(head) if it[0] == "requires")
         return Clause(file, function, name, line, words, premises)
 
+    def field(self, of: Clause, path: str) -> Clause:
+        """A field of a record that a clause cites, as `RECORD.FIELD`."""
+        record, _, name = path.partition(".")
+        place = next((it for it in self.closure([of]) if it.name == record), None)
+        found = [it for it in fields_of(place.text) if it[0] == name] if place else []
+        if not place or len(found) != 1:
+            raise NoClause(f"{of.file}: {of.function} has no field {path}")
+        ((_, line, text),) = found
+        named = set(self._named(of.file, of.text))
+        also = {it for it in named if place not in self.closure([], [it])}
+        also |= set(self._named(place.file, head_of_record(place.text))) - {place}
+        return Clause(
+            place.file,
+            of.function,
+            path,
+            place.line + line,
+            text,
+            of.premises,
+            of.text,
+            tuple(sorted(also, key=lambda it: (it.file, it.line))),
+        )
+
     def definition(self, file: str, name: str) -> Definition:
         """A definition by its place."""
         try:
@@ -130,8 +157,8 @@ class Crates:
         self, clauses: Sequence[Clause], also: Sequence[Definition] = ()
     ) -> list[Definition]:
         """The definitions that some clauses stand on, and `also`, by file and line."""
-        found = set(also)
-        ahead = [(it.file, it.text) for it in clauses] + [(it.file, it.text) for it in also]
+        found = {*also, *(one for it in clauses for one in it.also)}
+        ahead = [(it.file, it.text) for it in clauses] + [(it.file, it.text) for it in found]
         while ahead:
             file, text = ahead.pop()
             for one in self._named(file, text):
@@ -188,6 +215,24 @@ def declarations_of(file: str, text: str) -> Iterator[Definition]:
         following = [above(lines, it, "--") for it in (*starts, *ends) if it > at]
         last = min(following, default=len(lines))
         yield Definition(file, found[1], first + 1, "\n".join(lines[first:last]).rstrip() + "\n")
+
+
+def head_of_record(text: str) -> str:
+    """The head of a record: its name and its parameters, with its comment."""
+    lines = text.splitlines()
+    begun = next((at for at, line in enumerate(lines) if FIELD.match(line)), len(lines))
+    return "\n".join(lines[: above(lines, begun, "  --")])
+
+
+def fields_of(text: str) -> Iterator[tuple[str, int, str]]:
+    """The fields of a record: name, first line in the record from 0, and text with its comment."""
+    lines = text.splitlines()
+    starts = [at for at, line in enumerate(lines) if FIELD.match(line)]
+    firsts = [above(lines, at, "  --") for at in starts]
+    for at, first, end in zip(starts, firsts, [*firsts[1:], len(lines)]):
+        found = FIELD.match(lines[at])
+        assert found
+        yield found[1], first, "\n".join(it[2:] for it in lines[first:end])
 
 
 def ends_definition(line: str) -> bool:

@@ -133,8 +133,7 @@ def promises_of(values: Values, top: Path = TOP) -> list[Promise]:
     traits = [crates.definition(file, name) for name, file in values["traits"].items()]
     found = []
     for table in values["promise"]:
-        places = [it.split() for it in table["clauses"]]
-        clauses = [crates.clause(*(it if len(it) == 3 else [*it, ""])) for it in places]
+        clauses = [clause_at(crates, it) for it in table["clauses"]]
         also = [it for it in traits if it.name in traits_of(clauses)]
         defined = tuple(crates.closure(clauses, also))
         found.append(
@@ -145,9 +144,16 @@ def promises_of(values: Values, top: Path = TOP) -> list[Promise]:
     return found
 
 
+def clause_at(crates: Crates, place: str) -> Clause:
+    """A clause by file, function and, if it has one, name; or a field `RECORD.FIELD` of it."""
+    file, function, *names = place.split()
+    clause = crates.clause(file, function, names[0] if names else "")
+    return crates.field(clause, names[1]) if len(names) > 1 else clause
+
+
 def traits_of(clauses: Sequence[Clause]) -> set[str]:
     """The traits whose members clauses name: of files and sinks by F and K."""
-    text = " ".join(it.text for it in clauses)
+    text = " ".join(f"{it.around} {it.text}" for it in clauses)
     members = {"F.": "Files", "K.": "Sink", "latched": "Port", "response": "Plant"}
     return {trait for member, trait in members.items() if member in text}
 

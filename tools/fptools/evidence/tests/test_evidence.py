@@ -158,19 +158,14 @@ def found_page(folder: Path, record: dict[str, object]) -> str:
 
 def test_the_page_quotes_the_clauses_of_the_sources(folder: Path) -> None:
     text = plain((folder / "index.html").read_text())
-    source = " ".join((TOP / COMMAND).read_text().split())
-    for name in (
-        "alone",
-        "phased",
-        "visits",
-        "call_visits",
-        "said",
-        "statuses",
-        "as_run",
-        "imported",
-    ):
-        quoted = " ".join(Crates(TOP).clause(COMMAND, "flexpret", name).text.split())
-        assert quoted in source and quoted in text, name
+    crates = Crates(TOP)
+    outcome = crates.clause(COMMAND, "flexpret", "outcome")
+    fields = ("isolated", "as_run", "visits", "call_visits", "said", "imported")
+    for path in (*(f"KnownOutcome.{it}" for it in fields), "Outcome.statuses"):
+        field = crates.field(outcome, path)
+        source = " ".join((TOP / field.file).read_text().split())
+        quoted = " ".join(field.text.split())
+        assert quoted in source and quoted in text, path
 
 
 def test_the_definitions_are_those_of_the_sources(folder: Path) -> None:
@@ -277,6 +272,8 @@ def test_a_clause_that_is_gone_is_a_fault() -> None:
     crates = Crates(TOP)
     with pytest.raises(NoClause, match="flexpret has 0 clauses gone"):
         crates.clause(COMMAND, "flexpret", "gone")
+    with pytest.raises(NoClause, match="flexpret has no field Outcome.gone"):
+        crates.field(crates.clause(COMMAND, "flexpret", "outcome"), "Outcome.gone")
     with pytest.raises(NoClause, match="no function nothing"):
         crates.clause(COMMAND, "nothing", "")
     with pytest.raises(NoClause, match="no definition Gone"):
@@ -327,6 +324,27 @@ def test_a_clause_leads_to_definitions_and_types(tmp_path: Path) -> None:
         ("of", 7, 3),
         ("Kind", 1, 4),
     ]
+
+
+def test_a_field_leads_to_its_own_definitions_and_those_of_the_clause(tmp_path: Path) -> None:
+    small_tree(tmp_path)
+    (tmp_path / "crates/one/specs/Whole.antt").write_text(
+        "use Rattle.one.specs.Own.{value, other}\n\n-- all\npub record Whole (n : ℕ) : Type 0"
+        " where\n  -- the first\n  pub first : n ≡ value\n  -- the second\n  pub second : n\n"
+        "      ≡ other\n\nabbrev pub same : ℕ → ℕ\nsame n = n\n"
+    )
+    (tmp_path / "crates/one/src/it.rt").write_text(
+        "ghost use Rattle.one.specs.Whole.{Whole, same};\n\n"
+        "pub fn it() -> u8\n    ensures whole { Whole (same result) }\n{\n    1\n}\n"
+    )
+    crates = Crates(tmp_path)
+    whole = crates.clause("crates/one/src/it.rt", "it", "whole")
+    first = crates.field(whole, "Whole.first")
+    assert (first.line, first.text) == (5, "-- the first\npub first : n ≡ value\n".rstrip())
+    second = crates.field(whole, "Whole.second")
+    assert second.text == "-- the second\npub second : n\n    ≡ other"
+    assert {it.name for it in crates.closure([first])} == {"same", "value", "of", "Kind"}
+    assert {it.name for it in crates.closure([second])} == {"same", "other"}
 
 
 def test_a_changed_definition_changes_the_digest_and_a_comment_does_not(tmp_path: Path) -> None:

@@ -1,10 +1,14 @@
-use Rattle.std.proofs.Common.{map}
+use Rattle.std.proofs.Common.{map, refl}
 use Rattle.std.specs.Prelude.{string_bytes}
 use Rattle.beside_loads.proofs.Visited.{bounded}
 use Rattle.beside_loads.proofs.bounds.write_bound.Goals as goal
 
 pub returns : goal.returns
 returns g c =
-    λ zero. bounded c.programs_keep_rules.ensures (g.F.Files.told c.args.files.now)
-    (map string_bytes c.args.words.now) c.args.out.now.bytes c.flexpret.new.out.bytes
-    c.requires.empty (c.flexpret.ensures.visits zero) (c.flexpret.ensures.call_visits zero)
+    λ zero. bounded (record {
+      rules = c.programs_keep_rules.ensures;
+      sections = c.bounds_while_scheduled.ensures.sections;
+      calls = c.bounds_while_scheduled.ensures.calls;
+    }) (g.F.Files.told c.args.files.now) (map string_bytes c.args.words.now) _ _ c.flexpret.result
+    c.flexpret.ensures.outcome.known c.args.out.now.bytes c.flexpret.new.out.bytes
+    c.requires.empty refl refl zero

@@ -1,10 +1,15 @@
-use Rattle.std.proofs.Common.{rules, ◌∙◌, ap, inl, inr, refl, subst}
+use Rattle.std.proofs.Common.{◌∙◌, ap, arith, inl, inr, refl, subst, Some}
 use Rattle.fp_ports.specs.PluggedPorts.{rows_of}
-use Rattle.flexpret_top.specs.Endings.{Ends}
+use Rattle.command_files.specs.Status.{number_of}
+use Rattle.command_files.specs.declared.status.Status.TheVariants.{Ok, Differs, Read, Usage}
+use Rattle.command_files.specs.declared.status.Status.TheVariants.{Write}
 use Rattle.command_files.specs.declared.stop.Stop.{Stop}
-use Rattle.flexpret_top.proofs.Ending.{all-of, answered-of, front-of, left-of, ok-no_difference}
-use Rattle.flexpret_top.proofs.Ending.{ok-no_nothing, ok-no_write, part-of, same-cut-short}
-use Rattle.flexpret_top.proofs.Ending.{write-no_difference, write-no_nothing, write-no_ok}
+use Rattle.flexpret_top.specs.Endings.{Ends}
+use Rattle.flexpret_top.specs.Outcome.{state}
+use Rattle.flexpret_top.proofs.Ending.{all-of, answered-of, front-of, is_status}
+use Rattle.flexpret_top.proofs.Ending.{left-of, not-silent, nothing-of, part-of, same-cut-short}
+use Rattle.flexpret_top.proofs.Ending.{some-none, status-of, unequal}
+use Rattle.flexpret_top.proofs.Outcomes.{Theorems, known-of}
 use Rattle.flexpret_top.proofs.Stopping.{difference-no_memory, no-difference}
 use Rattle.flexpret_top.proofs.Stopping.{stop-said, stop-read, stop-write, stop-front}
 use Rattle.flexpret_top.proofs.Stopping.{stop-complete, stop-leaves, stop-missing, stop-usage}
@@ -24,155 +29,203 @@ pub deliver-requires-clause-eight : goal.deliver-requires-clause-eight
 deliver-requires-clause-eight g c = c.prepare.ensures.eight
 
 pub returns-in-Ok-deliver : goal.returns-in-Ok-deliver
-returns-in-Ok-deliver g c = record {
-  told = c.prepare.ensures.told;
-  requests = c.prepare.ensures.asked;
-  counted_files = c.prepare.ensures.counted;
-  counted_out = c.deliver.ensures.counted;
-  said =
-      λ read write memory. (all-of (g.F.Files.told c.args.files.now) c.args.ask.now _ _
-      c.in-Ok.prepared (g.K.Sink.taken c.args.out.now) (g.K.Sink.taken c.deliver.new.out)
-      c.in-Ok.ensures.ok c.in-Ok-deliver.ensures.ok);
-  read = λ read. absurd (ok-no_nothing (inl read));
-  missing = λ lacks. (let e = c.in-Ok.ensures.missing lacks in cc);
-  write = λ write. absurd (ok-no_write write);
-  front = λ write. absurd (ok-no_write write);
-  complete =
-      λ no_fetch_fault no_put_fault. answered-of (g.F.Files.told c.args.files.now) c.args.ask.now _
-      _ c.in-Ok.prepared c.in-Ok.ensures.ok;
-  nothing = λ nothing. absurd (ok-no_nothing nothing);
-  ports =
-      λ ok. left-of (g.F.Files.told c.args.files.now) c.args.ask.now _ _ _ c.in-Ok.prepared
-      c.in-Ok.ensures.ok c.in-Ok-deliver.ensures.left;
-  eight = c.deliver.ensures.eight;
-  part = λ write. absurd (ok-no_write write);
-  unrun = λ memory. absurd (ok-no_nothing (inr memory));
-  kept = λ ok differs write memory. absurd (ok refl);
-  apart =
-      λ apart.
-      c.deliver.ensures.apart (c.in-Ok.ensures.apart_from apart) ∙ c.prepare.ensures.apart apart;
-  reads =
-      λ reads.
-      c.deliver.ensures.reads (c.in-Ok.ensures.reads_for reads) ∙ c.prepare.ensures.reads reads;
-  differs = λ differs. absurd (ok-no_difference differs);
-  asked = search rules;
-}
+returns-in-Ok-deliver g c =
+    let before = state g.F.Files g.K.Sink c.args.files.now c.args.out.now c.args.ports.now
+    (rows_of (λ b. (goal.Port-dyn g (b.vtable, b.value)).latched b.value)
+    (λ b. (goal.Port-dyn g (b.vtable, b.value)).word_at b.value) c.args.ports.now.items) in
+    let after = state g.F.Files g.K.Sink c.prepare.new.files c.deliver.new.out c.deliver.new.ports
+    (rows_of (λ b. (goal.Port-dyn g (b.vtable, b.value)).latched b.value)
+    (λ b. (goal.Port-dyn g (b.vtable, b.value)).word_at b.value) c.deliver.new.ports.items) in
+    let theorems : Theorems = record {
+      rules = c.theorems.ensures.rules;
+      by_view = c.theorems.ensures.by_view;
+      by_phases = c.theorems.ensures.by_phases;
+      visits = c.theorems.ensures.visits;
+      call_visits = c.theorems.ensures.call_visits;
+      imported = c.theorems.ensures.imported;
+    } in
+    record {
+      outcome = record {
+        statuses = is_status Ok;
+        usage = λ two. unequal 0 2 two refl;
+        asks = λ none. some-none none;
+        untouched = λ none. some-none none;
+        requests = inr c.prepare.ensures.asked;
+        told = c.prepare.ensures.told;
+        read = λ seven. unequal 0 7 seven refl;
+        missing = λ lacks. absurd (let e = c.in-Ok.ensures.missing lacks in let no : ⊥ = cc in no);
+        write = λ eight. unequal 0 8 eight refl;
+        nothing = λ is. not-silent 0 refl refl refl is;
+        counted_files = c.prepare.ensures.counted;
+        counted_out = c.deliver.ensures.counted;
+        kept = λ least eight nine. absurd (omega (arith, least));
+        apart =
+            λ apart. c.deliver.ensures.apart (c.in-Ok.ensures.apart_from apart)
+            ∙ c.prepare.ensures.apart apart;
+        reads =
+            λ reads. c.deliver.ensures.reads (c.in-Ok.ensures.reads_for reads)
+            ∙ c.prepare.ensures.reads reads;
+        differs = λ one. unequal 0 1 one refl;
+        known =
+            known-of theorems (g.F.Files.told c.args.files.now) (Some c.args.ask.now) before
+            after 0
+            (λ seven eight nine. all-of (g.F.Files.told c.args.files.now) c.args.ask.now _ _
+            c.in-Ok.prepared (g.K.Sink.taken c.args.out.now) (g.K.Sink.taken c.deliver.new.out)
+            c.in-Ok.ensures.ok c.in-Ok-deliver.ensures.ok)
+            (λ eight. unequal 0 8 eight refl)
+            (λ no_read_fault no_write_fault. answered-of (g.F.Files.told c.args.files.now)
+            c.args.ask.now _ _ c.in-Ok.prepared c.in-Ok.ensures.ok)
+            (λ zero. left-of (g.F.Files.told c.args.files.now) c.args.ask.now _ _ _
+            c.in-Ok.prepared c.in-Ok.ensures.ok c.in-Ok-deliver.ensures.left)
+            (λ eight. unequal 0 8 eight refl)
+            (λ nine. unequal 0 9 nine refl);
+      };
+      eight = c.deliver.ensures.eight;
+    }
 
 pub returns-in-Err-deliver : goal.returns-in-Err-deliver
-returns-in-Err-deliver g c = record {
-  told = c.prepare.ensures.told;
-  requests = c.prepare.ensures.asked;
-  counted_files = c.prepare.ensures.counted;
-  counted_out = c.deliver.ensures.counted;
-  said = λ read write memory. absurd (write refl);
-  read = λ read. absurd (write-no_nothing (inl read));
-  missing = λ lacks. (let e = c.in-Ok.ensures.missing lacks in cc);
-  write = λ write. c.in-Err-deliver.ensures.failed;
-  front =
-      λ write. (front-of (g.F.Files.told c.args.files.now) c.args.ask.now _ _ c.in-Ok.prepared
-      (g.K.Sink.taken c.args.out.now) (g.K.Sink.taken c.deliver.new.out)
-      c.in-Ok.ensures.ok c.in-Err-deliver.ensures.err);
-  complete = λ no_fetch_fault no_put_fault. absurd (no_put_fault c.in-Err-deliver.ensures.failed);
-  nothing = λ nothing. absurd (write-no_nothing nothing);
-  ports = λ ok. absurd (write-no_ok ok);
-  eight = c.deliver.ensures.eight;
-  part =
-      λ write. part-of (g.F.Files.told c.args.files.now) c.args.ask.now _ _ _ c.in-Ok.prepared
-      c.in-Ok.ensures.ok c.in-Err-deliver.ensures.part;
-  unrun = λ memory. absurd (write-no_nothing (inr memory));
-  kept = λ ok differs write memory. absurd (write refl);
-  apart =
-      λ apart.
-      c.deliver.ensures.apart (c.in-Ok.ensures.apart_from apart) ∙ c.prepare.ensures.apart apart;
-  reads =
-      λ reads.
-      c.deliver.ensures.reads (c.in-Ok.ensures.reads_for reads) ∙ c.prepare.ensures.reads reads;
-  differs = λ differs. absurd (write-no_difference differs);
-  asked = search rules;
-}
+returns-in-Err-deliver g c =
+    let before = state g.F.Files g.K.Sink c.args.files.now c.args.out.now c.args.ports.now
+    (rows_of (λ b. (goal.Port-dyn g (b.vtable, b.value)).latched b.value)
+    (λ b. (goal.Port-dyn g (b.vtable, b.value)).word_at b.value) c.args.ports.now.items) in
+    let after = state g.F.Files g.K.Sink c.prepare.new.files c.deliver.new.out c.deliver.new.ports
+    (rows_of (λ b. (goal.Port-dyn g (b.vtable, b.value)).latched b.value)
+    (λ b. (goal.Port-dyn g (b.vtable, b.value)).word_at b.value) c.deliver.new.ports.items) in
+    let theorems : Theorems = record {
+      rules = c.theorems.ensures.rules;
+      by_view = c.theorems.ensures.by_view;
+      by_phases = c.theorems.ensures.by_phases;
+      visits = c.theorems.ensures.visits;
+      call_visits = c.theorems.ensures.call_visits;
+      imported = c.theorems.ensures.imported;
+    } in
+    record {
+      outcome = record {
+        statuses = is_status Write;
+        usage = λ two. unequal 8 2 two refl;
+        asks = λ none. some-none none;
+        untouched = λ none. some-none none;
+        requests = inr c.prepare.ensures.asked;
+        told = c.prepare.ensures.told;
+        read = λ seven. unequal 8 7 seven refl;
+        missing = λ lacks. absurd (let e = c.in-Ok.ensures.missing lacks in let no : ⊥ = cc in no);
+        write = λ eight. c.in-Err-deliver.ensures.failed;
+        nothing = λ is. not-silent 8 refl refl refl is;
+        counted_files = c.prepare.ensures.counted;
+        counted_out = c.deliver.ensures.counted;
+        kept = λ least eight nine. absurd (eight refl);
+        apart =
+            λ apart. c.deliver.ensures.apart (c.in-Ok.ensures.apart_from apart)
+            ∙ c.prepare.ensures.apart apart;
+        reads =
+            λ reads. c.deliver.ensures.reads (c.in-Ok.ensures.reads_for reads)
+            ∙ c.prepare.ensures.reads reads;
+        differs = λ one. unequal 8 1 one refl;
+        known =
+            known-of theorems (g.F.Files.told c.args.files.now) (Some c.args.ask.now) before
+            after 8
+            (λ seven eight nine. absurd (eight refl))
+            (λ eight. front-of (g.F.Files.told c.args.files.now) c.args.ask.now _ _
+            c.in-Ok.prepared (g.K.Sink.taken c.args.out.now) (g.K.Sink.taken c.deliver.new.out)
+            c.in-Ok.ensures.ok c.in-Err-deliver.ensures.err)
+            (λ no_read_fault no_write_fault.
+            absurd (no_write_fault c.in-Err-deliver.ensures.failed))
+            (λ zero. unequal 8 0 zero refl)
+            (λ eight. part-of (g.F.Files.told c.args.files.now) c.args.ask.now _ _ _
+            c.in-Ok.prepared c.in-Ok.ensures.ok c.in-Err-deliver.ensures.part)
+            (λ nine. unequal 8 9 nine refl);
+      };
+      eight = c.deliver.ensures.eight;
+    }
 
 pub returns-in-Err : goal.returns-in-Err
-returns-in-Err g c = record {
-  told = c.prepare.ensures.told;
-  requests = c.prepare.ensures.asked;
-  counted_files = c.prepare.ensures.counted;
-  counted_out = c.end.ensures.counted;
-  said =
-      λ read write memory.
-      (let rows = rows_of (λ b. (goal.Port-dyn g (b.vtable, b.value)).latched b.value)
-      (λ b. (goal.Port-dyn g (b.vtable, b.value)).word_at b.value) c.args.ports.now.items in
-      stop-said (g.F.Files.told c.args.files.now) c.args.ask.now rows
-      (g.F.Files.faults c.args.files.now) (g.F.Files.faults c.prepare.new.files)
-      c.in-Err.stop c.end.result (g.K.Sink.faults c.args.out.now)
-      (g.K.Sink.faults c.end.new.out) (g.K.Sink.taken c.args.out.now)
-      (g.K.Sink.taken c.end.new.out) c.in-Err.ensures.stop c.end.ensures.ends read write memory);
-  read =
-      λ read. (let rows = rows_of (λ b. (goal.Port-dyn g (b.vtable, b.value)).latched b.value)
-      (λ b. (goal.Port-dyn g (b.vtable, b.value)).word_at b.value) c.args.ports.now.items in
-      stop-read (g.F.Files.told c.args.files.now) c.args.ask.now rows
-      (g.F.Files.faults c.args.files.now) (g.F.Files.faults c.prepare.new.files)
-      c.in-Err.stop c.end.result (g.K.Sink.faults c.args.out.now)
-      (g.K.Sink.faults c.end.new.out) (g.K.Sink.taken c.args.out.now)
-      (g.K.Sink.taken c.end.new.out) c.in-Err.ensures.stop c.end.ensures.ends read);
-  missing =
-      λ lacks. stop-missing c.in-Err.stop c.end.result _ _ _ _ c.end.ensures.ends
-      (let e = c.in-Err.ensures.missing lacks in cc);
-  write =
-      λ write. stop-write c.in-Err.stop c.end.result (g.K.Sink.faults c.args.out.now)
-      (g.K.Sink.faults c.end.new.out) (g.K.Sink.taken c.args.out.now)
-      (g.K.Sink.taken c.end.new.out) c.end.ensures.ends write;
-  front =
-      λ write. (let rows = rows_of (λ b. (goal.Port-dyn g (b.vtable, b.value)).latched b.value)
-      (λ b. (goal.Port-dyn g (b.vtable, b.value)).word_at b.value) c.args.ports.now.items in
-      stop-front (g.F.Files.told c.args.files.now) c.args.ask.now rows
-      (g.F.Files.faults c.args.files.now) (g.F.Files.faults c.prepare.new.files)
-      c.in-Err.stop c.end.result (g.K.Sink.faults c.args.out.now)
-      (g.K.Sink.faults c.end.new.out) (g.K.Sink.taken c.args.out.now)
-      (g.K.Sink.taken c.end.new.out) c.in-Err.ensures.stop c.end.ensures.ends write);
-  complete =
-      λ no_fetch_fault no_put_fault.
-      (let rows = rows_of (λ b. (goal.Port-dyn g (b.vtable, b.value)).latched b.value)
-      (λ b. (goal.Port-dyn g (b.vtable, b.value)).word_at b.value) c.args.ports.now.items in
-      stop-complete (g.F.Files.told c.args.files.now) c.args.ask.now rows
-      (g.F.Files.faults c.args.files.now) (g.F.Files.faults c.prepare.new.files) c.in-Err.stop
-      c.end.result (g.K.Sink.faults c.args.out.now) (g.K.Sink.faults c.end.new.out)
-      (g.K.Sink.taken c.args.out.now) (g.K.Sink.taken c.end.new.out) c.in-Err.ensures.stop
-      c.end.ensures.ends no_fetch_fault no_put_fault);
-  asked =
-      λ usage. stop-usage c.in-Err.stop c.end.result (g.K.Sink.faults c.args.out.now)
-      (g.K.Sink.faults c.end.new.out) (g.K.Sink.taken c.args.out.now)
-      (g.K.Sink.taken c.end.new.out) c.end.ensures.ends usage;
-  nothing = c.end.ensures.nothing;
-  ports =
-      λ ok.
-      (stop-leaves (g.F.Files.told c.args.files.now) c.args.ask.now _ _ c.in-Err.stop c.end.result
-      (g.K.Sink.faults c.args.out.now) (g.K.Sink.faults c.end.new.out)
-      (g.K.Sink.taken c.args.out.now) (g.K.Sink.taken c.end.new.out) c.end.ensures.ends ok);
-  kept =
-      λ ok differs write memory. (let Stops : Stop → Type 0 = λ s.
-      Ends s (g.K.Sink.faults c.args.out.now) (g.K.Sink.faults c.end.new.out)
-      (g.K.Sink.taken c.args.out.now) (g.K.Sink.taken c.end.new.out) c.end.result in
-      c.in-Err.ensures.kept (λ none. memory (subst Stops none c.end.ensures.ends))
-      (no-difference c.in-Err.stop c.end.result _ _ _ _ c.end.ensures.ends differs write));
-  apart = λ apart. c.prepare.ensures.apart apart;
-  eight = c.prepare.ensures.eight;
-  part =
-      λ write. (same-cut-short (g.F.Files.told c.args.files.now) c.args.ask.now _ _
-      (elim (c.in-Err.ensures.others
-      (write-no_memory c.in-Err.stop c.end.result _ _ _ _ c.end.ensures.ends write)) [
-        | inl reads ↦ c.prepare.ensures.reads reads
-        | inr same ↦
-            ap (λ ports. rows_of (λ b. (goal.Port-dyn g (b.vtable, b.value)).latched b.value)
-            (λ b. (goal.Port-dyn g (b.vtable, b.value)).word_at b.value) ports.items) same
-      ]));
-  unrun = λ memory. c.in-Err.ensures.part;
-  reads = λ reads. c.prepare.ensures.reads reads;
-  differs =
-      λ differs. (elim (c.in-Err.ensures.others
-      (difference-no_memory c.in-Err.stop c.end.result _ _ _ _ c.end.ensures.ends differs)) [
-        | inl reads ↦ c.prepare.ensures.reads reads
-        | inr same ↦
-            ap (λ ports. rows_of (λ b. (goal.Port-dyn g (b.vtable, b.value)).latched b.value)
-            (λ b. (goal.Port-dyn g (b.vtable, b.value)).word_at b.value) ports.items) same
-      ]);
-}
+returns-in-Err g c =
+    let before = state g.F.Files g.K.Sink c.args.files.now c.args.out.now c.args.ports.now
+    (rows_of (λ b. (goal.Port-dyn g (b.vtable, b.value)).latched b.value)
+    (λ b. (goal.Port-dyn g (b.vtable, b.value)).word_at b.value) c.args.ports.now.items) in
+    let after = state g.F.Files g.K.Sink c.prepare.new.files c.end.new.out c.prepare.new.ports
+    (rows_of (λ b. (goal.Port-dyn g (b.vtable, b.value)).latched b.value)
+    (λ b. (goal.Port-dyn g (b.vtable, b.value)).word_at b.value) c.prepare.new.ports.items) in
+    let theorems : Theorems = record {
+      rules = c.theorems.ensures.rules;
+      by_view = c.theorems.ensures.by_view;
+      by_phases = c.theorems.ensures.by_phases;
+      visits = c.theorems.ensures.visits;
+      call_visits = c.theorems.ensures.call_visits;
+      imported = c.theorems.ensures.imported;
+    } in
+    let told = g.F.Files.told c.args.files.now in
+    let faults = g.F.Files.faults c.args.files.now in
+    let faults' = g.F.Files.faults c.prepare.new.files in
+    let out = g.K.Sink.faults c.args.out.now in
+    let out' = g.K.Sink.faults c.end.new.out in
+    let taken = g.K.Sink.taken c.args.out.now in
+    let taken' = g.K.Sink.taken c.end.new.out in
+    let ends = c.end.ensures.ends in
+    let stop = c.in-Err.stop in
+    let status = c.end.result in
+    record {
+      outcome = record {
+        statuses = is_status status;
+        usage =
+            λ two. absurd (stop-usage stop status out out' taken taken' ends
+            (status-of status Usage two));
+        asks = λ none. some-none none;
+        untouched = λ none. some-none none;
+        requests = inr c.prepare.ensures.asked;
+        told = c.prepare.ensures.told;
+        read =
+            λ seven. stop-read told c.args.ask.now before.rows faults faults' stop status out out'
+            taken taken' c.in-Err.ensures.stop ends (status-of status Read seven);
+        missing =
+            λ lacks. inl (ap number_of (stop-missing stop status out out' taken taken' ends
+            (let e = c.in-Err.ensures.missing lacks in cc)));
+        write =
+            λ eight. stop-write stop status out out' taken taken' ends
+            (status-of status Write eight);
+        nothing =
+            λ is. c.end.ensures.nothing (nothing-of status
+            (stop-usage stop status out out' taken taken' ends) is);
+        counted_files = c.prepare.ensures.counted;
+        counted_out = c.end.ensures.counted;
+        kept =
+            λ least eight nine. (let Stops : Stop → Type 0 =
+            λ s. Ends s out out' taken taken' status in
+            c.in-Err.ensures.kept (λ none. nine (ap number_of (subst Stops none ends)))
+            (no-difference stop status out out' taken taken' ends
+            (λ e. let one = ap number_of e in omega (arith, one, least))
+            (λ e. eight (ap number_of e))));
+        apart = λ apart. c.prepare.ensures.apart apart;
+        reads = λ reads. c.prepare.ensures.reads reads;
+        differs =
+            λ one. (elim (c.in-Err.ensures.others (difference-no_memory stop status out out' taken
+            taken' ends (status-of status Differs one))) [
+              | inl reads ↦ c.prepare.ensures.reads reads
+              | inr same ↦
+                  ap (λ ports. rows_of (λ b. (goal.Port-dyn g (b.vtable, b.value)).latched b.value)
+                  (λ b. (goal.Port-dyn g (b.vtable, b.value)).word_at b.value) ports.items) same
+            ]);
+        known =
+            known-of theorems told (Some c.args.ask.now) before after (number_of status)
+            (λ seven eight nine. stop-said told c.args.ask.now before.rows faults faults' stop
+            status out out' taken taken' c.in-Err.ensures.stop ends (λ e. seven (ap number_of e))
+            (λ e. eight (ap number_of e)) (λ e. nine (ap number_of e)))
+            (λ eight. stop-front told c.args.ask.now before.rows faults faults' stop status out
+            out' taken taken' c.in-Err.ensures.stop ends (status-of status Write eight))
+            (λ no_read_fault no_write_fault. stop-complete told c.args.ask.now before.rows faults
+            faults' stop status out out' taken taken' c.in-Err.ensures.stop ends no_read_fault
+            no_write_fault)
+            (λ zero. stop-leaves told c.args.ask.now before.rows after.rows stop status out out'
+            taken taken' ends (status-of status Ok zero))
+            (λ eight. same-cut-short told c.args.ask.now before.rows after.rows
+            (elim (c.in-Err.ensures.others (write-no_memory stop status out out' taken taken' ends
+            (status-of status Write eight))) [
+              | inl reads ↦ c.prepare.ensures.reads reads
+              | inr same ↦
+                  ap (λ ports. rows_of (λ b. (goal.Port-dyn g (b.vtable, b.value)).latched b.value)
+                  (λ b. (goal.Port-dyn g (b.vtable, b.value)).word_at b.value) ports.items) same
+            ]))
+            (λ nine. c.in-Err.ensures.part);
+      };
+      eight = c.prepare.ensures.eight;
+    }

@@ -1,7 +1,7 @@
 use Rattle.std.proofs.Common.{◌≡◌, arith, refl, ap, ◌∙◌}
 use Rattle.std.proofs.lemmas.Result.{err_from_is_err_and}
 use Rattle.machine.specs.Feeding.{fed_first}
-use Rattle.machine.proofs.FeedLemmas.{turn, turn_front}
+use Rattle.machine.proofs.FeedLemmas.{turn, turn_prefix}
 use Rattle.machine.proofs.feeding.feed_inputs.Goals as goal
 
 pub loop-thread-init : goal.loop-thread-init
@@ -23,7 +23,7 @@ returns-in_err-feed_thread-clause-err g c =
     rw p.1 (
       c.loop-thread.thread,
       j,
-      turn_front c.args.setup.now _ _ _ c.loop-thread.thread j c.setup.inside.threads
+      turn_prefix c.args.setup.now _ _ _ c.loop-thread.thread j c.setup.inside.threads
           c.get.result.now c.as_slice.result.now (ap (λ s. s.threads) c.setup.view_is)
           c.get.ensures.value c.as_slice.ensures.value c.loop-thread.invariant.rows fed,
     )

@@ -3,7 +3,7 @@ use Rattle.std.proofs.Common.{length, Bool, true, false, refl, subst, arith, ap,
 use mir.Val.{bool_byte}
 use Rattle.slot_table.specs.Frame.{frame, turn}
 use Rattle.slot_table.proofs.Turns.{length-frame-le}
-use Rattle.solo_run.specs.Setup.{is_turn_of}
+use Rattle.core_model.specs.SettingLaws.{is_turn_of}
 use Rattle.solo_run.proofs.Positions.{bit-small, own-fits, own-inside, position-more, turn-own}
 use Rattle.solo_run.proofs.setup_view.own_positions.Goals as goal
 

@@ -10,7 +10,7 @@ use Rattle.pipe_model.specs.declared.stage_registers.Written.{Written}
 use Rattle.pipe_model.specs.Stages.{retired_event, writeback_stage}
 use Rattle.pipeline_core.specs.Abstraction.{registers_in}
 use Rattle.pipeline_core.specs.Turns.{held}
-use Rattle.machine.specs.declared.run.Leaving.{Leaving}
+use Rattle.machine.specs.declared.leaving.Leaving.{Leaving}
 use Rattle.machine.specs.declared.state.Machine.{Machine}
 use Rattle.machine.specs.Running.{turn_of}
 use Rattle.machine.proofs.RunLemmas.{left_all}
@@ -36,7 +36,7 @@ loop-self-init g c = record {
   same = same_begins _;
   known = c.requires.known;
   words = left_all _;
-  advanced = λ s from n first told taken within run. run;
+  advanced = λ s from n first prior taken within run. run;
 }
 
 pub leaving-requires : goal.leaving-requires
@@ -45,8 +45,8 @@ leaving-requires g c = c.observe-puts.ensures.issue c.if-puts.true
 pub loop-self-preserved : goal.loop-self-preserved
 loop-self-preserved g c =
     let inv = c.loop-self.invariant in
-    let cycle = c.tick.ensures in
-    let skip = c.skip_sleep.ensures in
+    let cycle = c.tick.ensures.cycle in
+    let skip = c.skip_sleep.ensures.skips in
     let m : Machine = c.loop-self.self.machine.now in
     let after : Machine = c.tick.new.self.machine.now in
     let later : Machine = c.skip_sleep.new.self.machine.now in
@@ -54,24 +54,25 @@ loop-self-preserved g c =
     still c.loop-self.paused m.at c.loop-self.stop inv.last c.loop-self-test.true in
     let whole : c.loop-self.stop ≡ c.args.end = inv.whole quiet in
     let below : m.at < c.args.end = subst (λ stop. m.at < stop) whole c.loop-self-test.true in
-    let eight : length c.tick.new.ports.items ≡ 8 = omega (arith, cycle.eight) in
+    let eight : length c.tick.new.ports.items ≡ 8 = omega (arith, c.tick.ensures.eight) in
     let forth : c.args.self.now.machine.now.at ≤ later.at =
     goes_forth _ m.at _ _ inv.forth cycle.at skip.on in
-    let same = same_run inv.same (same_run cycle.same skip.same) in
-    let known = knows_still (same_run cycle.same skip.same) inv.known in
+    let stays = same_run c.tick.ensures.same c.skip_sleep.ensures.same in
+    let same = same_run inv.same stays in
+    let known = knows_still stays inv.known in
     let event : Option Event = retired_event (m.at - 4) (held c.loop-self.self.stages.now.m) in
     let written : Held Written = writeback_stage (held c.loop-self.self.stages.now.m) in
     elim c.if-puts.branch [
       | then-puts w ↦
           (let here : later.at ≡ after.at = stays_here m.at _ _ _ w.stop-is cycle.at skip.on
-          skip.end in
-          let stayed : after ≡ later = sym (skip.machine ∙ ap (λ a. come_to after a) here) in
+          skip.within in
+          let stayed : after ≡ later = sym (skip.only_at ∙ ap (λ a. come_to after a) here) in
           let stays : registers_in c.tick.new.self.stages.now written
           ≡ registers_in c.skip_sleep.new.self.stages.now (turn_of w.leaving.result) =
           ap (λ v. registers_in c.tick.new.self.stages.now v) w.leaving.ensures.stage
-          ∙ ap (λ x. registers_in x (turn_of w.leaving.result)) (sym skip.stages) in
+          ∙ ap (λ x. registers_in x (turn_of w.leaving.result)) (sym skip.stay) in
           record {
-            within = skip.end;
+            within = skip.within;
             before = stop_within m.at _ _ w.stop-is below;
             forth = forth;
             begun = λ h. begun_no_more _ m.at _ _ _ _ h inv.forth cycle.at skip.on;
@@ -80,27 +81,27 @@ loop-self-preserved g c =
                 subst (λ (o : Option Leaving). IfSome o (λ x. x.thread < 8)) (sym w.paused-is)
                 w.leaving.ensures.thread;
             whole = λ h. never c.if-puts.paused _ _ (ap is_some w.paused-is) h;
-            eight = cycle.eight;
+            eight = c.tick.ensures.eight;
             same = same;
             known = known;
             words = words_on _ _ _ inv.words cycle.words;
             advanced =
-                λ s from n first told taken within run. advanced_as g.O.Observer.acts s from n
-                first c.skip_sleep.new.self.stages.now later _ c.observe-puts.new.observer told
+                λ s from n first prior taken within run. advanced_as g.O.Observer.acts s from n
+                first c.skip_sleep.new.self.stages.now later _ c.observe-puts.new.observer prior
                 taken _ _
                 (sym w.paused-is)
                 (paused_as stays stayed
                 (runs_to_put g.O.Observer.acts s from n first c.loop-self.self.stages.now
                 (registers_in c.tick.new.self.stages.now written) m after _ _
-                c.loop-self.observer c.observe-puts.new.observer event told taken
+                c.loop-self.observer c.observe-puts.new.observer event prior taken
                 (advanced_as g.O.Observer.acts s from n first c.loop-self.self.stages.now m _
-                c.loop-self.observer told taken _ _ quiet
-                (inv.advanced s from n first told taken within run))
+                c.loop-self.observer prior taken _ _ quiet
+                (inv.advanced s from n first prior taken within run))
                 (λ x. cycle.relation s n x (below_in m.at _ _ below within)) cycle.at
                 c.observe-puts.ensures.state (rw w.if-puts.true at c.observe-puts.ensures.bytes)));
           })
       | else-puts w ↦ record {
-        within = skip.end;
+        within = skip.within;
         before = as_within _ _ _ w.stop-is inv.before;
         forth = forth;
         begun = λ h. begun_no_more _ m.at _ _ _ _ h inv.forth cycle.at skip.on;
@@ -109,26 +110,26 @@ loop-self-preserved g c =
             subst (λ (o : Option Leaving). IfSome o (λ x. x.thread < 8))
             (sym (w.paused-is ∙ quiet)) tt;
         whole = λ h. w.stop-is ∙ whole;
-        eight = cycle.eight;
+        eight = c.tick.ensures.eight;
         same = same;
         known = known;
         words = words_on _ _ _ inv.words cycle.words;
         advanced =
-            λ s from n first told taken within run. advanced_as g.O.Observer.acts s from n
-            first c.skip_sleep.new.self.stages.now later _ c.observe-puts.new.observer told taken _
+            λ s from n first prior taken within run. advanced_as g.O.Observer.acts s from n
+            first c.skip_sleep.new.self.stages.now later _ c.observe-puts.new.observer prior taken _
             _
             (sym (w.paused-is ∙ quiet))
             (runs_pass g.O.Observer.acts s from n first c.tick.new.self.stages.now
-            c.skip_sleep.new.self.stages.now after later _ c.observe-puts.new.observer told taken
+            c.skip_sleep.new.self.stages.now after later _ c.observe-puts.new.observer prior taken
             skip.on
             (λ x. skip.passed s n _ x (as_within _ _ _ (w.stop-is ∙ whole) within)
             (length-map c.tick.new.ports.items _ ∙ eight))
             (runs_on g.O.Observer.acts s from n first c.loop-self.self.stages.now
             c.tick.new.self.stages.now written m after _ _ c.loop-self.observer
-            c.observe-puts.new.observer event told taken
+            c.observe-puts.new.observer event prior taken
             (advanced_as g.O.Observer.acts s from n first c.loop-self.self.stages.now m _
-            c.loop-self.observer told taken _ _ quiet
-            (inv.advanced s from n first told taken within run))
+            c.loop-self.observer prior taken _ _ quiet
+            (inv.advanced s from n first prior taken within run))
             (λ x. cycle.relation s n x (below_in m.at _ _ below within)) cycle.at
             c.observe-puts.ensures.state (rw w.if-puts.false at c.observe-puts.ensures.bytes)));
       }

@@ -24,12 +24,12 @@ invariant-loop-self g l =
       same : IsSameRun l.initial.self l.self;
       known : KnowsPorts l.self;
       words : AreLeft start rows;
-      advanced : (s : Start) (c n : ℕ) (first : _) (told taken : Option (List ℕ)) →
+      advanced : (s : Start) (c n : ℕ) (first : _) (prior taken : Option (List ℕ)) →
           l.end ≤ n + 3 →
           Runs g.O.Observer.acts s c n first l.initial.self.stages.now
-          l.initial.self.machine.now start l.initial.observer told taken →
+          l.initial.self.machine.now start l.initial.observer prior taken →
           Advanced g.O.Observer.acts s c n first l.self.stages.now l.self.machine.now rows
-          l.observer told taken l.paused;
+          l.observer prior taken l.paused;
     }
 
 abbrev pub decreases-loop-self : goal.decreases-loop-self

@@ -13,7 +13,7 @@ loop-self-init g c = record {
   words = left_all _;
   same = same_begins _;
   known = c.requires.known;
-  runs = λ s from n first told within run. run;
+  runs = λ s from n first prior within run. run;
 }
 
 pub loop-self-preserved : goal.loop-self-preserved
@@ -21,19 +21,41 @@ loop-self-preserved g c =
     let inv = c.loop-self.invariant in
     let ahead = c.run_to_put.ensures in
     record {
-      within = ahead.end;
+      within = ahead.runs.within;
       eight = ahead.eight;
       counted = le_trans inv.counted ahead.counted;
-      words = words_on _ _ _ inv.words ahead.words;
-      same = same_run inv.same ahead.same;
-      known = knows_still ahead.same inv.known;
+      words = words_on _ _ _ inv.words ahead.runs.words;
+      same = same_run inv.same ahead.runs.same;
+      known = knows_still ahead.runs.same inv.known;
       runs =
-          λ s from n first told within run.
-          c.in_default.ensures.ok s from n first told within
-          (inv.runs s from n first told within run);
+          λ s from n first prior within run.
+          c.in_default.ensures.runs.ok s from n first prior within
+          (inv.runs s from n first prior within run);
     }
 
-pub returns-in-Err-clause-err : goal.returns-in-Err-clause-err
-returns-in-Err-clause-err g c s from n first told within run =
-    c.in-Err.ensures.err s from n first told within
-    (c.loop-self.invariant.runs s from n first told within run)
+pub returns-in-Err-clause-runs : goal.returns-in-Err-clause-runs
+returns-in-Err-clause-runs g c =
+    let inv = c.loop-self.invariant in
+    let stop = c.in-Err.ensures.runs in
+    record {
+      ok = tt;
+      err =
+          λ s from n first prior within run. stop.err s from n first prior within
+          (inv.runs s from n first prior within run);
+      fits = stop.fits;
+      same = same_run inv.same stop.same;
+      within = stop.within;
+      words = words_on _ _ _ inv.words stop.words;
+    }
+
+pub returns-clause-runs : goal.returns-clause-runs
+returns-clause-runs g c =
+    let inv = c.loop-self.invariant in
+    record {
+      ok = inv.runs;
+      err = tt;
+      fits = tt;
+      same = inv.same;
+      within = inv.within;
+      words = inv.words;
+    }

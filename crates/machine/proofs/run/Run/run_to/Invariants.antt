@@ -18,12 +18,12 @@ invariant-loop-self g l =
       words : AreLeft start rows;
       same : IsSameRun l.initial.self l.self;
       known : KnowsPorts l.self;
-      runs : (s : Start) (c n : ℕ) (first : _) (told : Option (List ℕ)) → l.end ≤ n + 3 →
+      runs : (s : Start) (c n : ℕ) (first : _) (prior : Option (List ℕ)) → l.end ≤ n + 3 →
           Runs g.O.Observer.acts s c n first l.initial.self.stages.now
-          l.initial.self.machine.now start l.initial.observer told
+          l.initial.self.machine.now start l.initial.observer prior
           (g.K.Sink.taken l.initial.out) →
           Runs g.O.Observer.acts s c n first l.self.stages.now l.self.machine.now rows l.observer
-          told (g.K.Sink.taken l.out);
+          prior (g.K.Sink.taken l.out);
     }
 
 abbrev pub decreases-loop-self : goal.decreases-loop-self

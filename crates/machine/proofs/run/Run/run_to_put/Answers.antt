@@ -5,43 +5,70 @@ use Rattle.machine.specs.Running.{turn_of}
 use Rattle.machine.proofs.AdvanceLemmas.{advanced_as, put_goes_on, put_stops, runs_pass, same_run}
 use Rattle.machine.proofs.run.Run.run_to_put.Goals as goal
 
-pub returns-in_default-clause-ok : goal.returns-in_default-clause-ok
-returns-in_default-clause-ok g c s from n first told within run =
-    advanced_as g.O.Observer.acts s from n first c.advance.new.self.stages.now
-    c.advance.new.self.machine.now _ c.advance.new.observer told (g.K.Sink.taken c.args.out.now) _
-    _ c.in_default.is
-    (c.advance.ensures.advanced s from n first told (g.K.Sink.taken c.args.out.now) within run)
+pub returns-in_default-clause-runs : goal.returns-in_default-clause-runs
+returns-in_default-clause-runs g c = record {
+  ok =
+      λ s from n first prior within run.
+      advanced_as g.O.Observer.acts s from n first c.advance.new.self.stages.now
+      c.advance.new.self.machine.now _ c.advance.new.observer prior
+      (g.K.Sink.taken c.args.out.now) _
+      _ c.in_default.is
+      (c.advance.ensures.advanced s from n first prior (g.K.Sink.taken c.args.out.now) within run);
+  err = tt;
+  fits = tt;
+  same = c.advance.ensures.same;
+  within = c.advance.ensures.end;
+  words = c.advance.ensures.words;
+}
 
-pub returns-in-Err-clause-err : goal.returns-in-Err-clause-err
-returns-in-Err-clause-err g c s from n first told within run =
-    rw c.held.ensures (put_stops g.O.Observer.acts s from n first _ _ _ _ told
-    (g.K.Sink.taken c.args.out.now) (g.K.Sink.taken c.write.new.out)
-    (advanced_as g.O.Observer.acts s from n first c.advance.new.self.stages.now
-    c.advance.new.self.machine.now _ c.advance.new.observer told (g.K.Sink.taken c.args.out.now) _
-    _ c.in-Some.is
-    (c.advance.ensures.advanced s from n first told (g.K.Sink.taken c.args.out.now) within run))
-    c.in-Err.ensures.err)
+pub returns-in-Err-clause-runs : goal.returns-in-Err-clause-runs
+returns-in-Err-clause-runs g c = record {
+  ok = tt;
+  err =
+      λ s from n first prior within run.
+      rw c.held.ensures (put_stops g.O.Observer.acts s from n first _ _ _ _ prior
+      (g.K.Sink.taken c.args.out.now) (g.K.Sink.taken c.write.new.out)
+      (advanced_as g.O.Observer.acts s from n first c.advance.new.self.stages.now
+      c.advance.new.self.machine.now _ c.advance.new.observer prior
+      (g.K.Sink.taken c.args.out.now) _
+      _ c.in-Some.is
+      (c.advance.ensures.advanced s from n first prior (g.K.Sink.taken c.args.out.now) within run))
+      c.in-Err.ensures.err);
+  fits =
+      rw c.held.ensures (rw c.in-Some.is at c.advance.ensures.fits);
+  same = c.advance.ensures.same;
+  within = c.advance.ensures.end;
+  words = c.advance.ensures.words;
+}
 
-pub returns-in-Err-clause-fits : goal.returns-in-Err-clause-fits
-returns-in-Err-clause-fits g c =
-    rw c.held.ensures (rw c.in-Some.is at c.advance.ensures.fits)
-
-pub returns-clause-ok : goal.returns-clause-ok
-returns-clause-ok g c s from n first told within run =
+pub returns-clause-runs : goal.returns-clause-runs
+returns-clause-runs g c =
     let same : length c.advance.new.ports.items ≡ 8 = omega (arith, c.advance.ensures.eight) in
-    runs_pass g.O.Observer.acts s from n first c.advance.new.self.stages.now
-    c.skip_sleep.new.self.stages.now c.advance.new.self.machine.now
-    c.skip_sleep.new.self.machine.now _ c.advance.new.observer told (g.K.Sink.taken c.write.new.out)
-    c.skip_sleep.ensures.on (λ w. c.skip_sleep.ensures.passed s n _ w within
-    (length-map c.advance.new.ports.items _ ∙ same))
-    (put_goes_on g.O.Observer.acts s from n first c.advance.new.self.stages.now
-    (turn_of c.in-Some.leaving) c.advance.new.self.machine.now _ c.advance.new.observer told
-    (g.K.Sink.taken c.args.out.now) (g.K.Sink.taken c.write.new.out)
-    (advanced_as g.O.Observer.acts s from n first c.advance.new.self.stages.now
-    c.advance.new.self.machine.now _ c.advance.new.observer told (g.K.Sink.taken c.args.out.now) _
-    _ c.in-Some.is
-    (c.advance.ensures.advanced s from n first told (g.K.Sink.taken c.args.out.now) within run))
-    c.in_default-write.ensures.ok)
+    record {
+      ok =
+          λ s from n first prior within run.
+          runs_pass g.O.Observer.acts s from n first c.advance.new.self.stages.now
+          c.skip_sleep.new.self.stages.now c.advance.new.self.machine.now
+          c.skip_sleep.new.self.machine.now _ c.advance.new.observer prior
+          (g.K.Sink.taken c.write.new.out)
+          c.skip_sleep.ensures.skips.on (λ w. c.skip_sleep.ensures.skips.passed s n _ w within
+          (length-map c.advance.new.ports.items _ ∙ same))
+          (put_goes_on g.O.Observer.acts s from n first c.advance.new.self.stages.now
+          (turn_of c.in-Some.leaving) c.advance.new.self.machine.now _ c.advance.new.observer prior
+          (g.K.Sink.taken c.args.out.now) (g.K.Sink.taken c.write.new.out)
+          (advanced_as g.O.Observer.acts s from n first c.advance.new.self.stages.now
+          c.advance.new.self.machine.now _ c.advance.new.observer prior
+          (g.K.Sink.taken c.args.out.now) _
+          _ c.in-Some.is
+          (c.advance.ensures.advanced s from n first prior (g.K.Sink.taken c.args.out.now) within
+          run))
+          c.in_default-write.ensures.ok);
+      err = tt;
+      fits = tt;
+      same = same_run c.advance.ensures.same c.skip_sleep.ensures.same;
+      within = c.skip_sleep.ensures.skips.within;
+      words = c.advance.ensures.words;
+    }
 
-pub returns-clause-same : goal.returns-clause-same
-returns-clause-same g c = same_run c.advance.ensures.same c.skip_sleep.ensures.same
+pub returns-clause-on : goal.returns-clause-on
+returns-clause-on g c = omega (arith, c.advance.ensures.on, c.skip_sleep.ensures.skips.on)

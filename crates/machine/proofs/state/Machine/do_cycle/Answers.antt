@@ -5,19 +5,17 @@ use Rattle.machine.proofs.RunLemmas.{ticks_by_step}
 use Rattle.machine.proofs.WordLemmas.{cycle_words}
 use Rattle.machine.proofs.state.Machine.do_cycle.Goals as goal
 
-pub returns-clause-relation : goal.returns-clause-relation
-returns-clause-relation g c =
+pub returns-clause-cycle : goal.returns-clause-cycle
+returns-clause-cycle g c =
     let same : length c.args.ports.now.items ≡ 8 = omega arith in
-    λ s n w within st.
-    ticks_by_step s n _ _ c.args.self.now _ _ _ _ _
-    (length-map c.args.ports.now.items _ ∙ same) c.take_if_any.ensures.rows within st
-    (c.tick.ensures.step w) refl refl
-
-pub returns-clause-words : goal.returns-clause-words
-returns-clause-words g c =
-    let same : length c.args.ports.now.items ≡ 8 = omega arith in
-    cycle_words c.args.self.now _ _ _ _ (length-map c.args.ports.now.items _ ∙ same)
-    c.take_if_any.ensures.rows (c.tick.ensures.step Bubble)
-
-pub returns-clause-at : goal.returns-clause-at
-returns-clause-at g c = refl
+    record {
+      relation =
+          λ s n w within st. ticks_by_step s n _ _ c.args.self.now _ _ _ _ _
+          (length-map c.args.ports.now.items _ ∙ same) c.take_if_any.ensures.rows within st
+          (c.tick.ensures.step w) refl refl;
+      at = refl;
+      unplugs = refl;
+      words =
+          cycle_words c.args.self.now _ _ _ _ (length-map c.args.ports.now.items _ ∙ same)
+          c.take_if_any.ensures.rows (c.tick.ensures.step Bubble);
+    }

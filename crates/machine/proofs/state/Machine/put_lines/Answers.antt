@@ -12,11 +12,11 @@ loop-number-preserved g c =
     (λ b. (goal.Port-dyn g (b.vtable, b.value)).word_at b.value) c.args.ports.now.items in
     let m = c.args.self.now in
     record {
-      told =
+      put =
           line_taken (g.K.Sink.taken c.args.out.now)
           (g.K.Sink.taken c.loop-number.out) (g.K.Sink.taken c.put_line.new.out)
           (dump_line (abstract_stages m.pipe) (abstract_state m.units rows) m.at)
-          c.loop-number.number c.loop-number.invariant.told c.in_ok-put_line.ensures.ok;
+          c.loop-number.number c.loop-number.invariant.put c.in_ok-put_line.ensures.ok;
       counted = omega (arith, c.loop-number.invariant.counted, c.put_line.ensures.counted);
     }
 
@@ -31,4 +31,4 @@ returns-in_err-put_line-clause-err g c =
     rw p.1 (line_begun (g.K.Sink.taken c.args.out.now) (g.K.Sink.taken c.loop-number.out)
     (g.K.Sink.taken c.put_line.new.out) (dump_line (abstract_stages m.pipe)
     (abstract_state m.units rows) m.at) c.loop-number.number (66 + m.units.guard.size / 32)
-    within c.loop-number.invariant.told c.in_err-put_line.ensures.err)
+    within c.loop-number.invariant.put c.in_err-put_line.ensures.err)

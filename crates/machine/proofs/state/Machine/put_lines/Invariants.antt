@@ -10,7 +10,7 @@ invariant-loop-number g l =
     let rows = rows_of (λ b. (goal.Port-dyn g (b.vtable, b.value)).latched b.value)
     (λ b. (goal.Port-dyn g (b.vtable, b.value)).word_at b.value) l.ports.items in
     record {
-      told : Appends (g.K.Sink.taken l.initial.out) (g.K.Sink.taken l.out) (lines_before
+      put : Appends (g.K.Sink.taken l.initial.out) (g.K.Sink.taken l.out) (lines_before
           (abstract_stages l.self.pipe) (abstract_state l.self.units rows) l.self.at l.number);
       counted : g.K.Sink.faults l.initial.out ≤ g.K.Sink.faults l.out;
     }

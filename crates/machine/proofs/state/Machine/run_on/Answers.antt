@@ -11,18 +11,18 @@ within_more end n within = omega arith
 
 pub returns-clause-ok : goal.returns-clause-ok
 returns-clause-ok g c =
-    map_ok c.run_with.result _ _ c.run_with.ensures.ok (λ more s n first told within run.
+    map_ok c.run_with.result _ _ c.run_with.ensures.ok (λ more s n first prior within run.
     let done = more s n (within_more c.args.end n within) run.refines in
     lines_run grows s c.args.self.now.at c.args.end n c.args.thread first c.args.self.now
-    c.run_with.new.self _ _ c.new.result c.run_with.new.observer told
+    c.run_with.new.self _ _ c.new.result c.run_with.new.observer prior
     (g.K.Sink.taken c.args.out.now) (g.K.Sink.taken c.run_with.new.out) c.new.ensures run done.0
     done.1 c.run_with.ensures.words)
 
 pub returns-clause-err : goal.returns-clause-err
 returns-clause-err g c =
-    map_err c.run_with.result _ _ c.run_with.ensures.err (λ more s n first told within run.
+    map_err c.run_with.result _ _ c.run_with.ensures.err (λ more s n first prior within run.
     let done = more s n (within_more c.args.end n within) run.refines in
     lines_stop grows s c.args.self.now.at n c.args.thread first c.args.self.now
-    c.run_with.new.self _ _ c.new.result told
+    c.run_with.new.self _ _ c.new.result prior
     (g.K.Sink.taken c.args.out.now) (g.K.Sink.taken c.run_with.new.out) c.new.ensures
     (le_trans c.run_with.ensures.end within) run done.0 done.1 c.run_with.ensures.words)

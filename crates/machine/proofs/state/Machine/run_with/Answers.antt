@@ -27,41 +27,42 @@ pub returns-in-Err-clause-err : goal.returns-in-Err-clause-err
 returns-in-Err-clause-err g c s n within st =
     let acts = g.O.Observer.acts in
     let o = c.args.observer.now in
-    let told = g.K.Sink.taken c.args.out.now in
-    given_part acts s c.args.self.now.at n o _ told (g.K.Sink.taken c.run_to.new.out)
+    let prior = g.K.Sink.taken c.args.out.now in
+    given_part acts s c.args.self.now.at n o _ prior (g.K.Sink.taken c.run_to.new.out)
     c.self-1.given.0 c.finish.new.self.0
     (stopped_given_back acts s c.args.self.now.at n o _ c.run_to.new.self.machine.now
-    c.finish.new.self.0 _ told (g.K.Sink.taken c.run_to.new.out) c.finish.ensures.stages
+    c.finish.new.self.0 _ prior (g.K.Sink.taken c.run_to.new.out) c.finish.ensures.stages
     c.finish.ensures.same
-    (c.in-Err.ensures.err s c.args.self.now.at n o told (less c.args.end n within)
-    (runs_begin acts s n o c.of-stages.result c.args.self.now _ told c.of-stages.ensures st)))
+    (c.in-Err.ensures.runs.err s c.args.self.now.at n o prior (less c.args.end n within)
+    (runs_begin acts s n o c.of-stages.result c.args.self.now _ prior c.of-stages.ensures st)))
     (search rules)
 
 pub returns-then-puts-clause-ok : goal.returns-then-puts-clause-ok
 returns-then-puts-clause-ok g c =
     let acts = g.O.Observer.acts in
     let o = c.args.observer.now in
-    let told = g.K.Sink.taken c.args.out.now in
+    let prior = g.K.Sink.taken c.args.out.now in
     let at = c.run_to.new.self.machine.now.at in
     map_ok c.write.result _ _ c.write.ensures.ok (λ put s n within st.
-    given_seen acts s c.args.self.now.at n c.args.end o c.observe-puts.new.observer _ told
+    given_seen acts s c.args.self.now.at n c.args.end o c.observe-puts.new.observer _ prior
     (g.K.Sink.taken c.write.new.out) c.self-2-1.given.0 c.finish-2.new.self.0
     (ran_to_put acts s c.args.self.now.at n c.args.end o c.finish-2.new.self.0 _
-    c.observe-puts.new.observer told
+    c.observe-puts.new.observer prior
     (g.K.Sink.taken c.run_to.new.out) (g.K.Sink.taken c.write.new.out)
     (next c.args.self.now.at c.args.end at _ c.requires.begun c.if-self-end.false
     c.in_default.ensures.cycles (ap (λ (m : Machine). m.at) c.finish-2.ensures.same ∙
-    c.last-w.ensures.at))
+    c.last-w.ensures.cycle.at))
     (runs_to_put acts s c.args.self.now.at n o c.run_to.new.self.stages.now _
-    c.run_to.new.self.machine.now _ _ _ c.run_to.new.observer c.observe-puts.new.observer _ told
+    c.run_to.new.self.machine.now _ _ _ c.run_to.new.observer c.observe-puts.new.observer _ prior
     (g.K.Sink.taken c.run_to.new.out)
-    (c.in_default.ensures.ok s c.args.self.now.at n o told (less c.args.end n within)
-    (runs_begin acts s n o c.of-stages.result c.args.self.now _ told c.of-stages.ensures st))
+    (c.in_default.ensures.runs.ok s c.args.self.now.at n o prior (less c.args.end n within)
+    (runs_begin acts s n o c.of-stages.result c.args.self.now _ prior c.of-stages.ensures st))
     (λ w here. ticks_given_back s at n _ c.last-w.new.self.machine.now c.finish-2.new.self.0 _ _ _
     c.finish-2.ensures.stages c.finish-2.ensures.same
-    (c.last-w.ensures.relation s n w (in_reach c.args.self.now.at c.args.end at n c.requires.begun
+    (c.last-w.ensures.cycle.relation s n w
+    (in_reach c.args.self.now.at c.args.end at n c.requires.begun
     c.if-self-end.false c.in_default.ensures.cycles within) here))
-    (ap (λ (m : Machine). m.at) c.finish-2.ensures.same ∙ c.last-w.ensures.at)
+    (ap (λ (m : Machine). m.at) c.finish-2.ensures.same ∙ c.last-w.ensures.cycle.at)
     c.observe-puts.ensures.state
     (rw c.if-puts.true at c.observe-puts.ensures.bytes)) put) (search rules))
 
@@ -69,24 +70,25 @@ pub returns-then-puts-clause-err : goal.returns-then-puts-clause-err
 returns-then-puts-clause-err g c =
     let acts = g.O.Observer.acts in
     let o = c.args.observer.now in
-    let told = g.K.Sink.taken c.args.out.now in
+    let prior = g.K.Sink.taken c.args.out.now in
     let at = c.run_to.new.self.machine.now.at in
     map_err c.write.result _ _ c.write.ensures.err (λ put s n within st.
-    given_part acts s c.args.self.now.at n o _ told (g.K.Sink.taken c.write.new.out)
+    given_part acts s c.args.self.now.at n o _ prior (g.K.Sink.taken c.write.new.out)
     c.self-2-1.given.0 c.finish-2.new.self.0
     (ran_in_part acts s c.args.self.now.at n o c.finish-2.new.self.0 _ c.observe-puts.new.observer
-    told
+    prior
     (g.K.Sink.taken c.run_to.new.out) (g.K.Sink.taken c.write.new.out)
     (runs_to_put acts s c.args.self.now.at n o c.run_to.new.self.stages.now _
-    c.run_to.new.self.machine.now _ _ _ c.run_to.new.observer c.observe-puts.new.observer _ told
+    c.run_to.new.self.machine.now _ _ _ c.run_to.new.observer c.observe-puts.new.observer _ prior
     (g.K.Sink.taken c.run_to.new.out)
-    (c.in_default.ensures.ok s c.args.self.now.at n o told (less c.args.end n within)
-    (runs_begin acts s n o c.of-stages.result c.args.self.now _ told c.of-stages.ensures st))
+    (c.in_default.ensures.runs.ok s c.args.self.now.at n o prior (less c.args.end n within)
+    (runs_begin acts s n o c.of-stages.result c.args.self.now _ prior c.of-stages.ensures st))
     (λ w here. ticks_given_back s at n _ c.last-w.new.self.machine.now c.finish-2.new.self.0 _ _ _
     c.finish-2.ensures.stages c.finish-2.ensures.same
-    (c.last-w.ensures.relation s n w (in_reach c.args.self.now.at c.args.end at n c.requires.begun
+    (c.last-w.ensures.cycle.relation s n w
+    (in_reach c.args.self.now.at c.args.end at n c.requires.begun
     c.if-self-end.false c.in_default.ensures.cycles within) here))
-    (ap (λ (m : Machine). m.at) c.finish-2.ensures.same ∙ c.last-w.ensures.at)
+    (ap (λ (m : Machine). m.at) c.finish-2.ensures.same ∙ c.last-w.ensures.cycle.at)
     c.observe-puts.ensures.state
     (rw c.if-puts.true at c.observe-puts.ensures.bytes)) put) (search rules))
 
@@ -94,29 +96,31 @@ pub returns-clause-ok : goal.returns-clause-ok
 returns-clause-ok g c s n within st =
     let acts = g.O.Observer.acts in
     let o = c.args.observer.now in
-    let told = g.K.Sink.taken c.args.out.now in
+    let prior = g.K.Sink.taken c.args.out.now in
     let at = c.run_to.new.self.machine.now.at in
-    given_seen acts s c.args.self.now.at n c.args.end o c.observe-puts.new.observer _ told
+    given_seen acts s c.args.self.now.at n c.args.end o c.observe-puts.new.observer _ prior
     (g.K.Sink.taken c.run_to.new.out) c.self-2-1.given.0 c.finish-2.new.self.0
     (ran_quietly acts s c.args.self.now.at n c.args.end o c.run_to.new.self.stages.now
     c.run_to.new.self.machine.now c.finish-2.new.self.0 _ _ c.run_to.new.observer
-    c.observe-puts.new.observer _ told
+    c.observe-puts.new.observer _ prior
     (g.K.Sink.taken c.run_to.new.out)
-    (c.in_default.ensures.ok s c.args.self.now.at n o told (less c.args.end n within)
-    (runs_begin acts s n o c.of-stages.result c.args.self.now _ told c.of-stages.ensures st))
+    (c.in_default.ensures.runs.ok s c.args.self.now.at n o prior (less c.args.end n within)
+    (runs_begin acts s n o c.of-stages.result c.args.self.now _ prior c.of-stages.ensures st))
     (λ w here. ticks_given_back s at n _ c.last-w.new.self.machine.now c.finish-2.new.self.0 _ _ _
     c.finish-2.ensures.stages c.finish-2.ensures.same
-    (c.last-w.ensures.relation s n w (in_reach c.args.self.now.at c.args.end at n c.requires.begun
+    (c.last-w.ensures.cycle.relation s n w
+    (in_reach c.args.self.now.at c.args.end at n c.requires.begun
     c.if-self-end.false c.in_default.ensures.cycles within) here))
-    (ap (λ (m : Machine). m.at) c.finish-2.ensures.same ∙ c.last-w.ensures.at) (next
+    (ap (λ (m : Machine). m.at) c.finish-2.ensures.same ∙ c.last-w.ensures.cycle.at) (next
     c.args.self.now.at c.args.end at _ c.requires.begun
     c.if-self-end.false c.in_default.ensures.cycles (ap (λ (m : Machine). m.at)
-    c.finish-2.ensures.same ∙ c.last-w.ensures.at))
+    c.finish-2.ensures.same ∙ c.last-w.ensures.cycle.at))
     c.observe-puts.ensures.state (rw c.if-puts.false at c.observe-puts.ensures.bytes))
     (search rules)
 
 pub returns-clause-words : goal.returns-clause-words
-returns-clause-words g c = words_on _ _ _ c.run_to.ensures.words c.last-w.ensures.words
+returns-clause-words g c = words_on _ _ _ c.run_to.ensures.runs.words c.last-w.ensures.cycle.words
 
 pub returns-then-puts-clause-words : goal.returns-then-puts-clause-words
-returns-then-puts-clause-words g c = words_on _ _ _ c.run_to.ensures.words c.last-w.ensures.words
+returns-then-puts-clause-words g c =
+    words_on _ _ _ c.run_to.ensures.runs.words c.last-w.ensures.cycle.words

@@ -1,5 +1,5 @@
 use Rattle.std.proofs.Common.{rules}
 use Rattle.machine.proofs.state.Machine.sleep_moment.Goals as goal
 
-pub returns-else-mode-eq0 : goal.returns-else-mode-eq0
-returns-else-mode-eq0 c = search rules
+pub returns-else-is_active : goal.returns-else-is_active
+returns-else-is_active c = search rules

@@ -11,4 +11,4 @@ returns-clause-relation g c s n within st =
     c.of-stages.ensures c.event-event.ensures.event st
     (λ w here. ticks_given_back s c.args.self.now.at n _ c.last-w.new.self.machine.now
     c.finish.new.self.0 _ _ _ c.finish.ensures.stages c.finish.ensures.same
-    (c.last-w.ensures.relation s n w within here))) (search rules)
+    (c.last-w.ensures.cycle.relation s n w within here))) (search rules)

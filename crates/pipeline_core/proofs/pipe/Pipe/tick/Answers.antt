@@ -1,5 +1,5 @@
 -- A cycle preserves the relation to the world.
-use Rattle.std.proofs.Common.{ap, sym, ◌∙◌}
+use Rattle.std.proofs.Common.{ap, ◌∙◌}
 use Rattle.pipeline_core.specs.Abstraction.{registers_in}
 use Rattle.pipeline_core.proofs.Refining.{kept_as}
 use Rattle.pipeline_core.proofs.pipe.Pipe.tick.Goals as goal

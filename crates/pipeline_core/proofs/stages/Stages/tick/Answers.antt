@@ -14,11 +14,11 @@ returns-clause-step g c w =
     (steps (registers_in c.args.self.now w) _ _ _ c.args.cycle _ _ _ _ _ _ _ _ _ _ refl
     c.older_stages.ensures.m c.older_stages.ensures.units
     c.now-now.ensures c.early_pick-pick.ensures.pick c.early_pick-pick.ensures.pointer
-    (rw c.older_stages.ensures.d at c.execute-redirects.ensures.e)
-    (sym (rw c.older_stages.ensures.d at c.execute-redirects.ensures.redirect))
-    (rw c.older_stages.ensures.d at c.execute-redirects.ensures.units _)
+    (rw c.older_stages.ensures.d at c.execute-redirects.ensures.executed.e)
+    (sym (rw c.older_stages.ensures.d at c.execute-redirects.ensures.executed.redirect))
+    (rw c.older_stages.ensures.d at c.execute-redirects.ensures.executed.units _)
     (rw (c.execute-redirects.ensures.next, c.older_stages.ensures.next) at
     c.younger_stages.ensures.f) (rw (c.execute-redirects.ensures.next, c.older_stages.ensures.next)
-    at c.younger_stages.ensures.next)
+    at c.younger_stages.ensures.pcs)
     (rw (c.execute-redirects.ensures.m, c.execute-redirects.ensures.f, c.older_stages.ensures.f) at
     c.younger_stages.ensures.d))

@@ -5,7 +5,7 @@ use Rattle.core_model.specs.Thread.{Execution}
 use Rattle.core_model.specs.Issue.{execute_in, execute_word}
 use Rattle.core_model.specs.View.{environment_by}
 use Rattle.timer_unit.specs.Time.{is_due}
-use Rattle.hart_exec.specs.declared.outcome.Sources.{Sources}
+use Rattle.hart_exec.specs.declared.result.Sources.{Sources}
 use Rattle.solo_run.specs.ThreadState.{abstract_environment, own_of}
 use Rattle.solo_run.specs.Registers.{sources_in}
 use Rattle.solo_run.proofs.Alone.{did_alone, guard_alone, lag_alone}

@@ -1,0 +1,11 @@
+-- The fault of a program, from that of a run.
+use Rattle.loop_runs.specs.declared.driver.LoopStop.{LoopStop}
+use Rattle.loop_runs.specs.declared.driver.LoopStop.TheVariants.{NoMemory, PutFailed}
+use Rattle.loop_files.specs.Faults.{no_memory}
+use Rattle.loop_files.specs.declared.fault.LoopFault.TheVariants.{Write}
+use Rattle.loop_cli.specs.declared.fault.Fault.{Fault}
+use Rattle.loop_cli.specs.declared.fault.Fault.TheVariants.{Run}
+
+abbrev pub of_run : LoopStop → Fault
+of_run NoMemory = Run no_memory
+of_run PutFailed = Run Write

@@ -1,0 +1,10 @@
+pub mod Faults
+pub mod LoopFiles
+pub use Rattle.command_files.specs.Answer
+pub use Rattle.command_files.specs.Program
+pub use Rattle.command_files.specs.Status
+pub use Rattle.command_files.specs.Stops
+pub use Rattle.fp_io.specs.Causes
+pub use Rattle.fp_io.specs.Content
+pub use Rattle.loop_words.specs.Arguments
+pub use Rattle.loop_words.specs.Plants

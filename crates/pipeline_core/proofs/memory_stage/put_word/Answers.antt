@@ -1,6 +1,0 @@
-use Rattle.std.proofs.Common.{rules}
-use Rattle.pipeline_core.proofs.memory_stage.put_word.Goals as goal
-
-pub returns-then-address-eq-PORT_ADDRESS-clause-rows :
-    goal.returns-then-address-eq-PORT_ADDRESS-clause-rows
-returns-then-address-eq-PORT_ADDRESS-clause-rows g c = search rules
