@@ -18,8 +18,8 @@ use Rattle.flexpret_top.specs.Section.{Section}
 use Rattle.beside_loads.specs.Bounds.{BoundsBeside, BoundsCallsBeside, IsBoundBeside}
 
 section-bound : ProgramsKeepRules → LongestWhileScheduled → (p : Program) (i : ℕ)
-    (section : Section) (before bytes : List ℕ) → before ≡ [] → IsLongest p i section (Some before) (Some bytes) →
-    BoundsBeside p i section bytes
+    (section : Section) (before bytes : List ℕ) → before ≡ [] →
+    IsLongest p i section (Some before) (Some bytes) → BoundsBeside p i section bytes
 section-bound rules law p i section before bytes empty h = record {
   cycles = h.cycles;
   text = h.wrote ∙ ap (λ (xs : List ℕ). xs ++ bound_text h.cycles) empty;

@@ -257,8 +257,8 @@ section-longest law p i section before after None x (inr (inr bounded)) said =
     }
 
 pub visits-over : VisitsStayBoundedInSettings → (asked : Option Ask) (files : FileMap)
-    (ports : List (Option Row)) (before after : Option (List ℕ)) → Said (IsAnswerTo asked files ports) 0 before after →
-    BoundsVisits asked files before after
+    (ports : List (Option Row)) (before after : Option (List ℕ)) →
+    Said (IsAnswerTo asked files ports) 0 before after → BoundsVisits asked files before after
 visits-over law None files ports before after said = tt
 visits-over law (Some (Run setup i n)) files ports before after said = tt
 visits-over law (Some (Dump setup n)) files ports before after said = tt
@@ -295,7 +295,8 @@ call-refused in_calls.NoMemory x before after line said = cc
 
 -- over the routines of a file
 listed-longest : CallVisitsStayBoundedInSettings → (p : Program) (i : ℕ) (section : Section)
-    (file : List ℕ) (before after : Option (List ℕ)) (x : Answer) (r : Result (List Routine) RoutinesRefused) →
+    (file : List ℕ) (before after : Option (List ℕ)) (x : Answer)
+    (r : Result (List Routine) RoutinesRefused) →
     routines_of (size_of p.setup.version) file ≡ r →
     IsRoutinesAnswer p i section (of_routines r) x → IsSaid 0 before after x →
     IsLongestByCalls p i section file before after
@@ -348,8 +349,8 @@ calls-longest law p i section file before after None x is said =
     routines-longest law p i section file before after x is said
 
 pub call-visits-over : CallVisitsStayBoundedInSettings → (asked : Option Ask) (files : FileMap)
-    (ports : List (Option Row)) (before after : Option (List ℕ)) → Said (IsAnswerTo asked files ports) 0 before after →
-    BoundsCallVisits asked files before after
+    (ports : List (Option Row)) (before after : Option (List ℕ)) →
+    Said (IsAnswerTo asked files ports) 0 before after → BoundsCallVisits asked files before after
 call-visits-over law None files ports before after said = tt
 call-visits-over law (Some (Run setup i n)) files ports before after said = tt
 call-visits-over law (Some (Dump setup n)) files ports before after said = tt

@@ -10,8 +10,8 @@ ghost use Rattle.flexpret_top.specs.Corollaries.{QuietIsolation, QuietIsolationB
 use section_visits::premises::{has_same_words, phase_is_set, start_is_set};
 
 /// If no issue writes a configuration register, retired or in flight, the trace that `run` wrote
-/// for a confined hard thread follows from its view. If none writes a region register, it follows from
-/// the view and the settings.
+/// for a confined hard thread follows from its view. If none writes a region register, it follows
+/// from the view and the settings.
 pub fn isolates_in_quiet_runs()
     ensures by_view { QuietIsolation }
     ensures by_phases { QuietIsolationByPhases }
