@@ -43,7 +43,9 @@ class InView:
         return self.view.data_owners[(address - DATA) // (self.view.size // 8)]
 
     def fetch(self, pc: int) -> int | None:
-        if pc >= self.view.size or not self.view.sees(self.view.code_owners[pc // (self.view.size // 8)]):
+        if pc >= self.view.size or not self.view.sees(
+            self.view.code_owners[pc // (self.view.size // 8)]
+        ):
             return None
         return u32(self.view.code, pc)
 
@@ -56,14 +58,21 @@ class InView:
         owner = self.data_owner(address)
         if owner is None:
             return None
-        return u32(self.data, (address & ~3) - DATA) if self.view.sees(owner) else self.load_of_others()
+        return (
+            u32(self.data, (address & ~3) - DATA)
+            if self.view.sees(owner)
+            else self.load_of_others()
+        )
 
     def load_of_others(self) -> int | None:
         """A load from a region that isn't in the view."""
         return None
 
     def may_store(self, address: int, width: int) -> bool:
-        return (address == PORT and width == 4) or self.data_owner(address) in (self.view.number, SHARED)
+        return (address == PORT and width == 4) or self.data_owner(address) in (
+            self.view.number,
+            SHARED,
+        )
 
     def store(self, address: int, width: int, value: int) -> None:
         if self.data_owner(address) == self.view.number:
@@ -94,7 +103,12 @@ class InWideView(InView):
         setup = self.view.setup
         if writes or not self.view.thread.permit:
             return None
-        return {SLOTS: setup.slots, MODES: setup.modes, DREGIONS: setup.dregions, IREGIONS: setup.iregions}
+        return {
+            SLOTS: setup.slots,
+            MODES: setup.modes,
+            DREGIONS: setup.dregions,
+            IREGIONS: setup.iregions,
+        }
 
 
 Loaded = Callable[[int], object]
@@ -115,7 +129,9 @@ def run_alone(view: View, cycles: int, is_own: Callable[[int], bool], granted: S
         now = cycle * view.period
         if not is_own(cycle) or cycle < thread.ready or now < thread.sleep:
             continue
-        around = InView(view, data, cycle) if granted is None else InWideView(view, data, cycle, words)
+        around = (
+            InView(view, data, cycle) if granted is None else InWideView(view, data, cycle, words)
+        )
         _, event = Step(thread, view.number, cycle, now, around).issue()
         if around.reads_port:
             loaded(cycle)
@@ -145,6 +161,8 @@ def phased(view: View, settings: Sequence[Setting], cycles: int) -> list[Event]:
 
     def is_own(cycle: int) -> bool:
         setting = [each for each in settings if each.cycle <= cycle][-1]
-        return turn(setting.slots, cycle) == view.number and mode(setting.modes, view.number) == HARD
+        return (
+            turn(setting.slots, cycle) == view.number and mode(setting.modes, view.number) == HARD
+        )
 
     return run_alone(view, cycles, is_own)

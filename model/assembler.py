@@ -138,7 +138,9 @@ def lower(names: Sequence[str]) -> list[str]:
 
 R_TYPE, M_TYPE = lower(list(ARITHMETIC.values())), lower(list(PRODUCTS.values()))
 I_TYPE, SHIFT_TYPE = lower(list(IMMEDIATES.values())), lower(list(SHIFTS.values()))
-LOAD_TYPE, STORE_TYPE, BRANCH_TYPE = (lower(list(table.values())) for table in (LOADS, STORES, BRANCHES))
+LOAD_TYPE, STORE_TYPE, BRANCH_TYPE = (
+    lower(list(table.values())) for table in (LOADS, STORES, BRANCHES)
+)
 CSR_TYPE = {f"csr{op.lower()}": funct3 for funct3, op in CSR_OPS.items()}
 
 FORMS = {
@@ -307,7 +309,9 @@ Encoding = Callable[[Encoder, Line], list[int]]
 
 
 def of_registers(name: str) -> Encoding:
-    funct3, funct7 = FUNCT3_7[name.capitalize()] if name in R_TYPE else (FUNCT3[name.capitalize()], 1)
+    funct3, funct7 = (
+        FUNCT3_7[name.capitalize()] if name in R_TYPE else (FUNCT3[name.capitalize()], 1)
+    )
 
     def encode(_: Encoder, line: Line) -> list[int]:
         rd, rs1, rs2 = (operand.number for operand in line.operands)
@@ -421,8 +425,12 @@ ENCODERS: dict[str, Encoding] = {
     "beqz": of_branch(FUNCT3["Beq"]),
     "bnez": of_branch(FUNCT3["Bne"]),
     "mv": lambda _, line: [i_word(OP_IMM, line.operands[0].number, 0, line.operands[1].number, 0)],
-    "not": lambda _, line: [i_word(OP_IMM, line.operands[0].number, FUNCT3["Xori"], line.operands[1].number, -1)],
-    "neg": lambda _, line: [r_word(OP, line.operands[0].number, 0, 0, line.operands[1].number, FUNCT3_7["Sub"][1])],
+    "not": lambda _, line: [
+        i_word(OP_IMM, line.operands[0].number, FUNCT3["Xori"], line.operands[1].number, -1)
+    ],
+    "neg": lambda _, line: [
+        r_word(OP, line.operands[0].number, 0, 0, line.operands[1].number, FUNCT3_7["Sub"][1])
+    ],
     "jr": lambda _, line: [i_word(JALR, 0, 0, line.operands[0].number, 0)],
     "csrr": lambda _, line: csr_word(line.operands[0].number, FUNCT3["Rs"], 0, line.operands[1]),
     "csrw": lambda _, line: csr_word(0, FUNCT3["Rw"], line.operands[1].number, line.operands[0]),

@@ -25,7 +25,9 @@ def chain(x: Costs, y: Costs) -> Costs:
     columns = range(len(x))
 
     def largest(row: Sequence[int], j: int) -> int:
-        return max((row[k] + y[k][j] for k in columns if row[k] != NONE and y[k][j] != NONE), default=NONE)
+        return max(
+            (row[k] + y[k][j] for k in columns if row[k] != NONE and y[k][j] != NONE), default=NONE
+        )
 
     return tuple(tuple(largest(row, j) for j in columns) for row in x)
 
@@ -67,7 +69,9 @@ class Bounds:
 
     def _step(self, slots: int, thread: int, lag: int) -> Costs:
         rows = [step_cost(slots, thread, position, lag) for position in self.own]
-        return tuple(tuple(cost if position == to else NONE for position in self.own) for cost, to in rows)
+        return tuple(
+            tuple(cost if position == to else NONE for position in self.own) for cost, to in rows
+        )
 
     def largest_cost(self) -> int:
         return max(self.ends[self.graph.section])
@@ -87,13 +91,17 @@ class Bounds:
             return []
         return [(edge.to, self.steps[edge.lag]) for edge in self.graph.plain(address)]
 
-    def _sweep(self, part: Part, first: int, last: int, inner: Mapping[int, Costs]) -> dict[int, Costs]:
+    def _sweep(
+        self, part: Part, first: int, last: int, inner: Mapping[int, Costs]
+    ) -> dict[int, Costs]:
         """The costs from one word to each reached word up to another, with the loops inside by their heads."""
         pending, met = {first: self.one}, dict[int, Costs]()
         for address in range(first, last + 4, 4):
             if address not in pending:
                 continue
-            met[address] = costs = chain(pending[address], inner[address]) if address in inner else pending[address]
+            met[address] = costs = (
+                chain(pending[address], inner[address]) if address in inner else pending[address]
+            )
             for to, arc in self._arcs(part, address):
                 if address < to <= last:
                     pending[to] = join(pending.get(to, self.none), chain(costs, arc))
@@ -113,13 +121,19 @@ class Bounds:
         done: dict[int, Costs] = {}
         for loop in sorted(part.loops(self.graph.loops), key=lambda each: (-each.head, -each.last)):
             if loop.head in self.graph.reached[part]:
-                inner = {head: costs for head, costs in done.items() if loop.head < head <= loop.last}
-                done[loop.head] = at_most(self._round_trips(part, loop, inner), loop.bound, self.one)
+                inner = {
+                    head: costs for head, costs in done.items() if loop.head < head <= loop.last
+                }
+                done[loop.head] = at_most(
+                    self._round_trips(part, loop, inner), loop.bound, self.one
+                )
         return done
 
     def _do(self, part: Part) -> None:
         through, ends = self.none, [0] * len(self.own)
-        for address, costs in self._sweep(part, part.first, part.end - 4, self._loops(part)).items():
+        for address, costs in self._sweep(
+            part, part.first, part.end - 4, self._loops(part)
+        ).items():
             ends = raised(ends, largest_of_rows(costs))
             ends = raised(ends, self._ends_behind(part, address, costs))
             if self.graph.returns(part, address):
@@ -132,7 +146,10 @@ class Bounds:
         if called := self.graph.called(address):
             inside = chain(costs, self.steps[JUMP_LAG])
             deep = self.ends[called]
-            ends = [max((c + deep[k] for k, c in enumerate(row) if c != NONE), default=NONE) for row in inside]
+            ends = [
+                max((c + deep[k] for k, c in enumerate(row) if c != NONE), default=NONE)
+                for row in inside
+            ]
         for to, arc in self._arcs(part, address):
             if not part.has(to):
                 ends = raised(ends, largest_of_rows(chain(costs, arc)))

@@ -159,7 +159,9 @@ class Call:
 
     def elf(self) -> None:
         try:
-            self.put(read_elf(self.files.fetch(self.question.file, executables.MOST_BYTES)).written())
+            self.put(
+                read_elf(self.files.fetch(self.question.file, executables.MOST_BYTES)).written()
+            )
         except ElfFault as fault:
             raise Refused(Status.IMAGE, image_line(fault.code, fault.offset)) from None
 
@@ -231,7 +233,9 @@ class Call:
         """The setup of the command, and its image."""
         try:
             setup = read_setup(self.files.fetch(self.question.file, setups.MOST_BYTES))
-            return setup, read_image(self.files.fetch(setup.image, MOST_BYTES[setup.size]), setup.size)
+            return setup, read_image(
+                self.files.fetch(setup.image, MOST_BYTES[setup.size]), setup.size
+            )
         except SetupFault as fault:
             raise Refused(Status.SETUP, setup_line(fault.code, fault.path)) from None
         except ImageFault as fault:
@@ -376,7 +380,9 @@ def flexpret(words: Sequence[str], files: Files, sink: Sink, ports: Ports) -> St
         return Status.NO_MEMORY
 
 
-def answer(words: Sequence[str], files: dict[str, bytes], ports: Ports | None = None) -> tuple[Status, bytes]:
+def answer(
+    words: Sequence[str], files: dict[str, bytes], ports: Ports | None = None
+) -> tuple[Status, bytes]:
     """The status and the text of a command over files in memory, with devices of the program's kind."""
     sink = MemSink()
     status = flexpret(words, MemFiles(files), sink, ports or [HeldPort() for _ in range(THREADS)])

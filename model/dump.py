@@ -31,7 +31,10 @@ def turn_text(turn: Turn) -> str:
 
 def stage_lines(world: World, cycles: int) -> Iterator[str]:
     """The five stages, with the turns of the last five cycles."""
-    turns = {stage: world.turns[cycles - k] if cycles >= k else BUBBLE for k, stage in enumerate("FDEMW", 1)}
+    turns = {
+        stage: world.turns[cycles - k] if cycles >= k else BUBBLE
+        for k, stage in enumerate("FDEMW", 1)
+    }
     yield "F -" if turns["F"].kind == Kind.BUBBLE else f"F T{turns['F'].thread}"
     for stage in "DEMW":
         yield f"{stage} {turn_text(turns[stage])}"
@@ -50,7 +53,9 @@ def timer_line(number: int, thread: Thread) -> str:
 def data_lines(data: bytes) -> Iterator[str]:
     for k in range(0, len(data), ROW):
         if any(data[k : k + ROW]):
-            yield f"[{DATA + k:08x}]" + "".join(f" {u32(data, at):08x}" for at in range(k, k + ROW, 4))
+            yield f"[{DATA + k:08x}]" + "".join(
+                f" {u32(data, at):08x}" for at in range(k, k + ROW, 4)
+            )
 
 
 class Seen:
@@ -65,14 +70,22 @@ class Seen:
         self.data, self.latches = bytes(world.data), list(world.latches)
         world.run_to(cycles - 2)
         self.csrs = dict(world.csrs)
-        self.late = [Thread(0, csrs=dict(t.csrs), armed=t.armed, high=t.high, sleep=t.sleep) for t in world.threads]
+        self.late = [
+            Thread(0, csrs=dict(t.csrs), armed=t.armed, high=t.high, sleep=t.sleep)
+            for t in world.threads
+        ]
         self.world = world.run_to(cycles)
         self.open = [is_unplugged(setup, ports, number, cycles) for number in range(THREADS)]
 
     def lines(self) -> Iterator[str]:
         yield f"cycles {self.world.at}"
         yield from stage_lines(self.world, self.world.at)
-        for name, csr in (("slots", SLOTS), ("modes", MODES), ("dregions", DREGIONS), ("iregions", IREGIONS)):
+        for name, csr in (
+            ("slots", SLOTS),
+            ("modes", MODES),
+            ("dregions", DREGIONS),
+            ("iregions", IREGIONS),
+        ):
             yield f"{name} {self.csrs[csr]:08x}"
         for number in range(THREADS):
             yield from self.thread_lines(number)
@@ -81,7 +94,9 @@ class Seen:
     def thread_lines(self, number: int) -> Iterator[str]:
         late = self.late[number]
         yield from register_lines(number, self.x[number])
-        yield f"T{number} csr" + "".join(f" {late.csrs[csr]:08x}" for csr in (MTVEC, MSCRATCH, MEPC, MCAUSE))
+        yield f"T{number} csr" + "".join(
+            f" {late.csrs[csr]:08x}" for csr in (MTVEC, MSCRATCH, MEPC, MCAUSE)
+        )
         yield timer_line(number, late)
         yield f"T{number} latch {'open' if self.open[number] else f'{self.latches[number]:08x}'}"
 

@@ -78,7 +78,9 @@ class Loader:
             self._load(header, at)
 
     def _load(self, header: ProgramHeader, at: int) -> None:
-        is_outside = header.in_memory != 0 and not is_inside(header.virtual, header.in_memory, LARGE)
+        is_outside = header.in_memory != 0 and not is_inside(
+            header.virtual, header.in_memory, LARGE
+        )
         if header.in_file > header.in_memory or is_outside:
             raise ElfFault(ElfNo.BadLoad, at)
         if header.in_file != 0 and header.offset + header.in_file > len(self.data):
@@ -98,7 +100,9 @@ def read_elf(data: bytes) -> Image:
     for k in range(u16(data, 44)):
         loader.take(u32(data, 28) + PROGRAM_HEADER_BYTES * k)
     words = {address & ~3 for address in loader.memory}
-    image = image_of_words({a: sum(loader.memory.get(a + k, 0) << 8 * k for k in range(4)) for a in words})
+    image = image_of_words(
+        {a: sum(loader.memory.get(a + k, 0) << 8 * k for k in range(4)) for a in words}
+    )
     if len(image.segments) > MOST_SEGMENTS:
         raise ElfFault(ElfNo.TooManySegments, 44)
     return image

@@ -32,7 +32,12 @@ class Stop(Enum):
     TIMED_WAIT = "TimedWait"
 
 
-STOPS = {"Jalr": Stop.INDIRECT_JUMP, "Mret": Stop.INDIRECT_JUMP, "Du": Stop.TIMED_WAIT, "Wu": Stop.TIMED_WAIT}
+STOPS = {
+    "Jalr": Stop.INDIRECT_JUMP,
+    "Mret": Stop.INDIRECT_JUMP,
+    "Du": Stop.TIMED_WAIT,
+    "Wu": Stop.TIMED_WAIT,
+}
 ENDS = ("Ecall", "Ebreak", "Illegal", *STOPS)
 """Instructions without an edge."""
 
@@ -116,7 +121,13 @@ def hexadecimal(field: bytes) -> int | None:
 class Graph:
     """The functions that are reached from a section's first word, and the reached words of each."""
 
-    def __init__(self, word_at: Callable[[int], int], section: Part, routines: Sequence[Part], loops: Sequence[Loop]):
+    def __init__(
+        self,
+        word_at: Callable[[int], int],
+        section: Part,
+        routines: Sequence[Part],
+        loops: Sequence[Loop],
+    ):
         self.word_at, self.section, self.routines, self.loops = word_at, section, routines, loops
         self.by_head = {routine.first: routine for routine in routines}
         self.called, self.plain = cache(self._called), cache(self._plain)
@@ -144,7 +155,9 @@ class Graph:
 
     def stop(self, part: Part, address: int) -> Stop | None:
         """Why the path after a word is unknown."""
-        return None if self.returns(part, address) else STOPS.get(decode(self.word_at(address)).kind)
+        return (
+            None if self.returns(part, address) else STOPS.get(decode(self.word_at(address)).kind)
+        )
 
     def callees(self, part: Part) -> list[Part]:
         found = {called for address in self.reached[part] if (called := self.called(address))}
@@ -154,7 +167,9 @@ class Graph:
         seen, todo = {part.first}, [part.first]
         while todo:
             address = todo.pop()
-            onward = [address + 4] if self.called(address) else [edge.to for edge in self.plain(address)]
+            onward = (
+                [address + 4] if self.called(address) else [edge.to for edge in self.plain(address)]
+            )
             new = [to for to in onward if part.has(to) and to not in seen]
             seen.update(new)
             todo += new
@@ -179,10 +194,16 @@ class Graph:
 
     def _overlapping(self) -> Iterator[int]:
         """Routines that have a word of the section."""
-        return (r.first for r in self.routines if r.first < self.section.end and self.section.first < r.end)
+        return (
+            r.first
+            for r in self.routines
+            if r.first < self.section.end and self.section.first < r.end
+        )
 
     def _recursive(self) -> Iterator[int]:
-        return (part.first for part in self.reached if part.is_routine and part in self._below(part))
+        return (
+            part.first for part in self.reached if part.is_routine and part in self._below(part)
+        )
 
     def _below(self, part: Part) -> set[Part]:
         """The routines that a function calls, and those that they call, and so on."""
@@ -195,13 +216,17 @@ class Graph:
         return seen
 
     def _words(self) -> Iterator[tuple[Part, int]]:
-        return ((part, address) for part, addresses in self.reached.items() for address in addresses)
+        return (
+            (part, address) for part, addresses in self.reached.items() for address in addresses
+        )
 
     def _badly_nested(self) -> Iterator[int]:
         for part in self.reached:
             loops = part.loops(self.loops)
             yield from crossing(loops)
-            yield from (loop.head for k, loop in enumerate(loops) if len(around(loops, k)) > MOST_AROUND)
+            yield from (
+                loop.head for k, loop in enumerate(loops) if len(around(loops, k)) > MOST_AROUND
+            )
             yield from (loop.head for loop in loops if self._is_entered_behind_head(part, loop))
 
     def _is_entered_behind_head(self, part: Part, loop: Loop) -> bool:
@@ -217,9 +242,13 @@ class Graph:
     def _unbounded(self) -> Iterator[int]:
         """Back edges of no loop."""
         for part, address in self._words():
-            ways_back = [edge.to for edge in self.plain(address) if part.has(edge.to) and edge.to <= address]
+            ways_back = [
+                edge.to for edge in self.plain(address) if part.has(edge.to) and edge.to <= address
+            ]
             loops = part.loops(self.loops)
-            if not all(any(loop.head == to and loop.holds(address) for loop in loops) for to in ways_back):
+            if not all(
+                any(loop.head == to and loop.holds(address) for loop in loops) for to in ways_back
+            ):
                 yield address
 
     def _escaping(self) -> Iterator[int]:

@@ -51,7 +51,9 @@ class Image:
     def written(self) -> bytes:
         """The bytes of the file."""
         head = MAGIC + len(self.segments).to_bytes(4, "little")
-        return head + b"".join(_number(address) + _number(len(data)) + data for address, data in self.segments)
+        return head + b"".join(
+            _number(address) + _number(len(data)) + data for address, data in self.segments
+        )
 
 
 def _number(value: int) -> bytes:

@@ -52,8 +52,16 @@ class Fields:
 
     def __init__(self, value: int) -> None:
         self.word = value
-        self.opcode, self.rd, self.funct3 = bits(value, 6, 0), bits(value, 11, 7), bits(value, 14, 12)
-        self.rs1, self.rs2, self.funct7 = bits(value, 19, 15), bits(value, 24, 20), bits(value, 31, 25)
+        self.opcode, self.rd, self.funct3 = (
+            bits(value, 6, 0),
+            bits(value, 11, 7),
+            bits(value, 14, 12),
+        )
+        self.rs1, self.rs2, self.funct7 = (
+            bits(value, 19, 15),
+            bits(value, 24, 20),
+            bits(value, 31, 25),
+        )
 
     def i_immediate(self) -> int:
         return signed(bits(self.word, 31, 20), 12)
@@ -63,14 +71,26 @@ class Fields:
 
     def b_offset(self) -> int:
         w = self.word
-        return signed(bits(w, 31, 31) << 12 | bits(w, 7, 7) << 11 | bits(w, 30, 25) << 5 | bits(w, 11, 8) << 1, 13)
+        return signed(
+            bits(w, 31, 31) << 12
+            | bits(w, 7, 7) << 11
+            | bits(w, 30, 25) << 5
+            | bits(w, 11, 8) << 1,
+            13,
+        )
 
     def u_immediate(self) -> int:
         return bits(self.word, 31, 12)
 
     def j_offset(self) -> int:
         w = self.word
-        return signed(bits(w, 31, 31) << 20 | bits(w, 19, 12) << 12 | bits(w, 20, 20) << 11 | bits(w, 30, 21) << 1, 21)
+        return signed(
+            bits(w, 31, 31) << 20
+            | bits(w, 19, 12) << 12
+            | bits(w, 20, 20) << 11
+            | bits(w, 30, 21) << 1,
+            21,
+        )
 
 
 def _upper(kind: str) -> Callable[[Fields], Ins | None]:
@@ -152,7 +172,9 @@ def decode(value: int) -> Ins:
 # ---------------------------------------------------------------- encoding
 
 
-def r_word(opcode: int, rd: int = 0, funct3: int = 0, rs1: int = 0, rs2: int = 0, funct7: int = 0) -> int:
+def r_word(
+    opcode: int, rd: int = 0, funct3: int = 0, rs1: int = 0, rs2: int = 0, funct7: int = 0
+) -> int:
     """The word of fields at the bits that most formats share."""
     return funct7 << 25 | rs2 << 20 | rs1 << 15 | funct3 << 12 | rd << 7 | opcode
 
@@ -177,7 +199,9 @@ def b_word(funct3: int, rs1: int, rs2: int, offset: int) -> int:
 
 def j_word(rd: int, offset: int) -> int:
     o = offset % (1 << 21)
-    head = bits(o, 20, 20) << 31 | bits(o, 10, 1) << 21 | bits(o, 11, 11) << 20 | bits(o, 19, 12) << 12
+    head = (
+        bits(o, 20, 20) << 31 | bits(o, 10, 1) << 21 | bits(o, 11, 11) << 20 | bits(o, 19, 12) << 12
+    )
     return head | rd << 7 | JAL
 
 
@@ -215,7 +239,9 @@ ENCODINGS: dict[str, Callable[[Ins], int]] = {
     "Gt": lambda x: r_word(TIMING, x.rd),
     "Gth": lambda x: r_word(TIMING, x.rd, FUNCT3["Gth"]),
     "De": lambda x: r_word(TIMING, 0, DE_FUNCT3),
-    **{kind: lambda x: r_word(TIMING, 0, FUNCT3[x.kind], x.rs1, x.rs2) for kind in MOMENTS.values()},
+    **{
+        kind: lambda x: r_word(TIMING, 0, FUNCT3[x.kind], x.rs1, x.rs2) for kind in MOMENTS.values()
+    },
     **{kind: lambda x: WORD_OF_SYSTEM[x.kind] for kind in SYSTEM_WORDS.values()},
 }
 
@@ -240,7 +266,14 @@ class Outcome:
     trap: int | None = None
 
 
-MISALIGNED_TARGET, ILLEGAL, BREAKPOINT, MISALIGNED_LOAD, MISALIGNED_STORE, ENVIRONMENT_CALL = 0, 2, 3, 4, 6, 11
+MISALIGNED_TARGET, ILLEGAL, BREAKPOINT, MISALIGNED_LOAD, MISALIGNED_STORE, ENVIRONMENT_CALL = (
+    0,
+    2,
+    3,
+    4,
+    6,
+    11,
+)
 
 ALU: dict[str, Callable[[int, int], int]] = {
     "Add": lambda a, b: word(a + b),
@@ -303,7 +336,9 @@ def _jump(pc: int, target: int) -> Outcome:
 
 def _branched(x: Ins, pc: int, a: int, b: int) -> Outcome:
     target, taken = word(pc + x.imm), TAKEN[x.op](a, b)
-    return Outcome(target=target, taken=taken, trap=MISALIGNED_TARGET if taken and target % 4 else None)
+    return Outcome(
+        target=target, taken=taken, trap=MISALIGNED_TARGET if taken and target % 4 else None
+    )
 
 
 def _accessed(x: Ins, a: int, size: int, cause: int) -> Outcome:

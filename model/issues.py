@@ -44,7 +44,9 @@ class Thread:
 
     pc: int
     x: list[int] = field(default_factory=lambda: [0] * 32)
-    csrs: dict[int, int] = field(default_factory=lambda: dict.fromkeys((MTVEC, MSCRATCH, MEPC, MCAUSE), 0))
+    csrs: dict[int, int] = field(
+        default_factory=lambda: dict.fromkeys((MTVEC, MSCRATCH, MEPC, MCAUSE), 0)
+    )
     armed: int | None = None
     high: int = 0
     sleep: int = 0

@@ -38,7 +38,9 @@ def port_stores(events: Iterable[Event], thread: int) -> list[PortStore]:
     return [
         PortStore(event.cycle, event.effect.value)
         for event in events
-        if event.thread == thread and isinstance(event.effect, Stored) and event.effect.address == PORT
+        if event.thread == thread
+        and isinstance(event.effect, Stored)
+        and event.effect.address == PORT
     ]
 
 
@@ -62,8 +64,15 @@ def last_word(stores: Sequence[PortStore], cycle: int, first: int) -> int:
 class Looped(Shown):
     """The words of a thread's loads at its port: the plant's word while the port is present."""
 
-    def __init__(self, shown: Shown, plant: Plant, stores: Callable[[], Sequence[PortStore]]) -> None:
-        self.unplug, self.inputs, self.device, self.fed = shown.unplug, shown.inputs, shown.device, shown.fed
+    def __init__(
+        self, shown: Shown, plant: Plant, stores: Callable[[], Sequence[PortStore]]
+    ) -> None:
+        self.unplug, self.inputs, self.device, self.fed = (
+            shown.unplug,
+            shown.inputs,
+            shown.device,
+            shown.fed,
+        )
         self.plant, self.stores = plant, stores
 
     def asks_device(self, cycle: int) -> bool:
@@ -72,7 +81,9 @@ class Looped(Shown):
     def __call__(self, cycle: int) -> int:
         if self.is_open(cycle):
             return OPEN
-        return self.plant([store for store in self.stores() if not self.is_open(store.cycle)], cycle)
+        return self.plant(
+            [store for store in self.stores() if not self.is_open(store.cycle)], cycle
+        )
 
 
 def loop_world(setup: Setup, image: Image, ports: Ports, plants: Mapping[int, Plant]) -> World:
@@ -80,14 +91,18 @@ def loop_world(setup: Setup, image: Image, ports: Ports, plants: Mapping[int, Pl
     world = World(setup, image, ports)
 
     def stores_of(thread: int) -> Callable[[], Sequence[PortStore]]:
-        return lambda: port_stores((turn.event for turn in world.turns if turn.event is not None), thread)
+        return lambda: port_stores(
+            (turn.event for turn in world.turns if turn.event is not None), thread
+        )
 
     for thread, plant in plants.items():
         world.shown[thread] = Looped(world.shown[thread], plant, stores_of(thread))
     return world
 
 
-def solo_in_loop(setup: Setup, image: Image, ports: Ports, thread: int, plant: Plant, cycles: int) -> list[Event]:
+def solo_in_loop(
+    setup: Setup, image: Image, ports: Ports, thread: int, plant: Plant, cycles: int
+) -> list[Event]:
     """The events of a confined hard thread by itself in the loop with its plant."""
     view = View(setup, image, ports, thread)
     events: list[Event] = []
@@ -139,5 +154,7 @@ class Motor:
         for step, taken in enumerate(words, 1):
             voltage = saturated(signed(taken) - speed)
             current = lagged(current, voltage, 4)
-            speed = lagged(speed, saturated(current - (0x4_0000 if step >= self.unloaded else 0)), 6)
+            speed = lagged(
+                speed, saturated(current - (0x4_0000 if step >= self.unloaded else 0)), 6
+            )
         return word(speed)

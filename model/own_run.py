@@ -53,7 +53,8 @@ def program(thread: int, numbers: Iterator[int]) -> list[Ins]:
 
 def setup() -> Setup:
     threads = [
-        ThreadSetup(HARD if k < HARD_THREADS else SOFT, REGION * k, confined=k < HARD_THREADS) for k in range(THREADS)
+        ThreadSetup(HARD if k < HARD_THREADS else SOFT, REGION * k, confined=k < HARD_THREADS)
+        for k in range(THREADS)
     ]
     hard = list(range(HARD_THREADS))
     return Setup(

@@ -35,7 +35,9 @@ def mode(modes: int, thread: int) -> int:
     return bits(modes, 2 * thread + 1, 2 * thread)
 
 
-def pick(slots: int, modes: int, sleeps: Sequence[int], cycle: int, now: int, last: int) -> tuple[int | None, int]:
+def pick(
+    slots: int, modes: int, sleeps: Sequence[int], cycle: int, now: int, last: int
+) -> tuple[int | None, int]:
     """Who has a cycle whose time is `now`, and the round-robin pointer behind it, which before it is `last`."""
 
     def is_awake(thread: int) -> bool:

@@ -184,7 +184,9 @@ class Table:
             raise SetupFault(SetupNo.WrongType, self.path(key))
         if len(value) != 8:
             raise SetupFault(SetupNo.OutOfRange, self.path(key))
-        return nibbles_word(named(name, names, code, f"{self.path(key)}[{k}]") for k, name in enumerate(value))
+        return nibbles_word(
+            named(name, names, code, f"{self.path(key)}[{k}]") for k, name in enumerate(value)
+        )
 
 
 def named(name: object, names: Mapping[str, int], code: SetupNo, path: str) -> int:
@@ -204,7 +206,9 @@ def read_inputs(table: Table) -> tuple[tuple[int, int], ...]:
         if not (isinstance(pair, list) and len(pair) == 2 and all(map(is_integer, pair))):
             raise SetupFault(SetupNo.WrongType, path)
         least = inputs[-1][0] + 1 if inputs else 0
-        inputs.append((ranged(pair[0], least, MOST_CYCLES, path), ranged(pair[1], 0, LAST_WORD, path)))
+        inputs.append(
+            (ranged(pair[0], least, MOST_CYCLES, path), ranged(pair[1], 0, LAST_WORD, path))
+        )
     return tuple(inputs)
 
 
@@ -233,7 +237,9 @@ def read_threads(top: Table, size: int) -> list[ThreadSetup]:
 
 def read_loop(table: Table, size: int) -> Loop:
     head = table.number("head", 0, size - 4, 4)
-    return Loop(head, table.number("last", head, size - 4, 4), table.number("bound", 0, MOST_ROUNDS))
+    return Loop(
+        head, table.number("last", head, size - 4, 4), table.number("bound", 0, MOST_ROUNDS)
+    )
 
 
 def read_loops(top: Table, size: int) -> list[Loop]:

@@ -41,7 +41,9 @@ class Walks:
 
     def __init__(self, graph: Graph, slots: int, thread: int) -> None:
         self.graph, self.slots, self.thread = graph, slots, thread
-        self.loops: list[Loop] = [loop for part in graph.reached for loop in part.loops(graph.loops)]
+        self.loops: list[Loop] = [
+            loop for part in graph.reached for loop in part.loops(graph.loops)
+        ]
 
     def starts(self) -> Iterator[At]:
         for position in own_positions(self.slots, self.thread):
@@ -65,7 +67,9 @@ class Walks:
 
     def _call(self, at: At, called: Part) -> Step:
         cost, position = step_cost(self.slots, self.thread, at.position, JUMP_LAG)
-        rounds = (0 if loop.head == called.first else count for loop, count in zip(self.loops, at.rounds))
+        rounds = (
+            0 if loop.head == called.first else count for loop, count in zip(self.loops, at.rounds)
+        )
         return cost, At(called.first, position, at.calls + (at.address,), tuple(rounds))
 
     def _return(self, at: At) -> list[Step]:
@@ -74,7 +78,9 @@ class Walks:
         part = self.part(At(call, 0, calls, ()))
         return self._go(at, calls, call, call + 4, JUMP_LAG, part)
 
-    def _go(self, at: At, calls: tuple[int, ...], come_from: int, to: int, lag: int, part: Part) -> list[Step]:
+    def _go(
+        self, at: At, calls: tuple[int, ...], come_from: int, to: int, lag: int, part: Part
+    ) -> list[Step]:
         cost, position = step_cost(self.slots, self.thread, at.position, lag)
         if not part.has(to):
             return [(cost, None)]

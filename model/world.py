@@ -10,7 +10,17 @@ from model.images import DATA, Image
 from model.issues import Step, Thread
 from model.bits import nibble, u32
 from model.ports import Ports, Shown
-from model.registers import DREGIONS, IREGIONS, MACHINE_CSRS, MODES, PORT, SLOTS, Regions, mode, pick
+from model.registers import (
+    DREGIONS,
+    IREGIONS,
+    MACHINE_CSRS,
+    MODES,
+    PORT,
+    SLOTS,
+    Regions,
+    mode,
+    pick,
+)
 from model.setups import HARD, READ_ONLY, SOFT, THREADS, Setup
 
 RETIRES = 4
@@ -60,7 +70,12 @@ class World:
         self.setup, self.size = setup, setup.size
         self.threads = [Thread(thread.entry) for thread in setup.threads]
         self.code, self.data = image.scratchpad(0, self.size), image.scratchpad(DATA, self.size)
-        self.csrs = {SLOTS: setup.slots, MODES: setup.modes, DREGIONS: setup.dregions, IREGIONS: setup.iregions}
+        self.csrs = {
+            SLOTS: setup.slots,
+            MODES: setup.modes,
+            DREGIONS: setup.dregions,
+            IREGIONS: setup.iregions,
+        }
         self.shown = [Shown(thread, port) for thread, port in zip(setup.threads, ports)]
         self.latches = [port.kept if port else None for port in ports]
         self.last = THREADS - 1
@@ -95,11 +110,14 @@ class World:
     def skip_sleep(self, end: int) -> None:
         """Does the cycles up to `end`, or to the next moment at which a thread wakes, if all threads sleep until then.
 
-        Nobody has a turn in these cycles. It needs settings that stay: no write is on its way to picking."""
+        Nobody has a turn in these cycles. It needs settings that stay: no write is on its way to picking.
+        """
         _, modes, sleeps = self._picking[0]
         if any(setting != self._picking[0] for setting in self._picking):
             return
-        moments = [sleep for number, sleep in enumerate(sleeps) if mode(modes, number) in (HARD, SOFT)]
+        moments = [
+            sleep for number, sleep in enumerate(sleeps) if mode(modes, number) in (HARD, SOFT)
+        ]
         wakes = -(-min(moments, default=end * self.setup.period) // self.setup.period)
         skipped = max(min(wakes, end) - self.at, 0)
         self.turns += [BUBBLE] * skipped
@@ -162,7 +180,9 @@ class InWorld:
 
     def store(self, address: int, width: int, value: int) -> None:
         if address != PORT:
-            self.world.data[address - DATA : address - DATA + width] = value.to_bytes(width, "little")
+            self.world.data[address - DATA : address - DATA + width] = value.to_bytes(
+                width, "little"
+            )
             return
         self.port = PortCall(self.number, self.cycle, value)
         if not self.world.shown[self.number].is_open(self.cycle):

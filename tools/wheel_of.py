@@ -44,7 +44,9 @@ def metadata(project: Mapping[str, Any]) -> str:
     return "\n".join([*lines, ""])
 
 
-def build_wheel(wheel_directory: str, config_settings: object = None, metadata_directory: object = None) -> str:
+def build_wheel(
+    wheel_directory: str, config_settings: object = None, metadata_directory: object = None
+) -> str:
     """Writes the wheel to a folder, and returns its name."""
     project = tomllib.loads((TOP / "pyproject.toml").read_text())["project"]
     name = f"{project['name']}-{project['version']}"
@@ -55,8 +57,13 @@ def build_wheel(wheel_directory: str, config_settings: object = None, metadata_d
         "entry_points.txt": "\n".join(["[console_scripts]", *scripts, ""]),
     }
     rows = []
-    with zipfile.ZipFile(Path(wheel_directory) / f"{name}-{TAG}.whl", "w", zipfile.ZIP_DEFLATED) as wheel:
-        for place, data in [*files(), *((f"{name}.dist-info/{it}", text.encode()) for it, text in own.items())]:
+    with zipfile.ZipFile(
+        Path(wheel_directory) / f"{name}-{TAG}.whl", "w", zipfile.ZIP_DEFLATED
+    ) as wheel:
+        for place, data in [
+            *files(),
+            *((f"{name}.dist-info/{it}", text.encode()) for it, text in own.items()),
+        ]:
             wheel.writestr(place, data)
             total = base64.urlsafe_b64encode(hashlib.sha256(data).digest()).rstrip(b"=").decode()
             rows.append(f"{place},sha256={total},{len(data)}\n")

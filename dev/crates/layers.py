@@ -21,6 +21,7 @@ from pathlib import Path
 import networkx
 
 from dev.program import TOP
+
 LIST = "crates.txt"
 PAGE = "docs/dev/ARCHITECTURE.md"
 LONGEST = 10

@@ -17,6 +17,7 @@ from dataclasses import dataclass
 from pathlib import Path
 
 from dev.program import TOP
+
 COLUMNS = 100
 """The widest line."""
 
@@ -83,7 +84,9 @@ def main(arguments: list[str]) -> int:
         return 2
     for wide in found:
         print(wide)
-    parts = ", ".join(f"{sum(it.file.parts[2] == part for it in found)} in {part}" for part in PARTS)
+    parts = ", ".join(
+        f"{sum(it.file.parts[2] == part for it in found)} in {part}" for part in PARTS
+    )
     print(f"{count} files, {len(found)} lines of over {COLUMNS} columns: {parts}")
     return 1 if found and options.check else 0
 

@@ -130,6 +130,8 @@ def faulty(core: str) -> str:
     """The text of a core with all faults, none of which is chosen by default."""
     for number, fault in enumerate(FAULTS, 1):
         if core.count(fault.sound) != 1:
-            sys.exit(f"dev/fuzz/core_faults.py: {fault.name}: its text isn't once in rtl/flexpret.sv")
+            sys.exit(
+                f"dev/fuzz/core_faults.py: {fault.name}: its text isn't once in rtl/flexpret.sv"
+            )
         core = core.replace(fault.sound, re.sub(r"\bIS\b", f"(fault == {number})", fault.faulty))
     return core.replace(STATE, STATE + CHOICE)

@@ -27,7 +27,7 @@ from dev.fuzz.hostile import COMMANDS, Corpus, Hostile, Line, corpus
 from dev.program import TOP, built_program, complaint
 from fptools.program.status import Status
 
-MODEL = TOP / 'model'
+MODEL = TOP / "model"
 """The repository's executable model."""
 
 SAMPLE = 20
@@ -37,14 +37,14 @@ BATCH = 200
 """The number of lines in a batch of a worker."""
 
 TEXTS = {
-    Status.DIFFERS: rb'differs line [1-9][0-9]*\n',
-    Status.SETUP: rb'refused (setup [0-9]+ [A-Za-z]+ \S+|section [1-6] [A-Za-z]+)\n',
-    Status.IMAGE: rb'refused image [0-9]+ [A-Za-z]+ [0-9]+\n',
-    Status.SOURCE: rb'refused source [0-9]+ [0-9]+ [A-Za-z]+\n',
-    Status.BOUND: rb'refused bound ([0-9]+ [A-Za-z]+ [0-9a-f]{8}|6 Overflow [0-9]+)\n',
-    Status.ROUTINES: rb'refused routines [0-9]+ [1-4] [A-Za-z]+\n',
-    Status.USAGE: rb'',
-    Status.READ: rb'',
+    Status.DIFFERS: rb"differs line [1-9][0-9]*\n",
+    Status.SETUP: rb"refused (setup [0-9]+ [A-Za-z]+ \S+|section [1-6] [A-Za-z]+)\n",
+    Status.IMAGE: rb"refused image [0-9]+ [A-Za-z]+ [0-9]+\n",
+    Status.SOURCE: rb"refused source [0-9]+ [0-9]+ [A-Za-z]+\n",
+    Status.BOUND: rb"refused bound ([0-9]+ [A-Za-z]+ [0-9a-f]{8}|6 Overflow [0-9]+)\n",
+    Status.ROUTINES: rb"refused routines [0-9]+ [1-4] [A-Za-z]+\n",
+    Status.USAGE: rb"",
+    Status.READ: rb"",
 }
 """The form of the output for each status. Ok has any output; Write and NoMemory don't occur here."""
 
@@ -58,8 +58,10 @@ class Late(Exception):
 @contextlib.contextmanager
 def at_most(seconds: float) -> Iterator[None]:
     """Raises Late if the block takes longer."""
+
     def ring(_: int, __: FrameType | None) -> None:
         raise Late
+
     before = signal.signal(signal.SIGALRM, ring)
     signal.setitimer(signal.ITIMER_REAL, seconds)
     try:
@@ -72,6 +74,7 @@ def at_most(seconds: float) -> Iterator[None]:
 @dataclass(frozen=True)
 class Ended:
     """The end of a call: its status, the signal that ended it as a negative number, or None for no end in time."""
+
     status: int | None
     out: bytes
     err: bytes
@@ -82,7 +85,7 @@ class Caller:
 
     def __init__(self, program: Path, room: str, seconds: float) -> None:
         self.program, self.seconds = program, seconds
-        self.nothing = os.open('/dev/null', os.O_RDONLY)
+        self.nothing = os.open("/dev/null", os.O_RDONLY)
         self.files = [tempfile.TemporaryFile(dir=room) for _ in range(2)]
         self.out, self.err = (file.fileno() for file in self.files)
 
@@ -90,10 +93,18 @@ class Caller:
         for stream in (self.out, self.err):
             os.ftruncate(stream, 0)
             os.lseek(stream, 0, os.SEEK_SET)
-        streams = [(os.POSIX_SPAWN_DUP2, stream, k) for k, stream in enumerate((self.nothing, self.out, self.err))]
+        streams = [
+            (os.POSIX_SPAWN_DUP2, stream, k)
+            for k, stream in enumerate((self.nothing, self.out, self.err))
+        ]
         no_variables: dict[str, str] = {}
-        child = os.posix_spawn(self.program, [b'flexpret', *words], no_variables, file_actions=streams)
-        return Ended(self.end_of(child), *(os.pread(stream, os.fstat(stream).st_size, 0) for stream in (self.out, self.err)))
+        child = os.posix_spawn(
+            self.program, [b"flexpret", *words], no_variables, file_actions=streams
+        )
+        return Ended(
+            self.end_of(child),
+            *(os.pread(stream, os.fstat(stream).st_size, 0) for stream in (self.out, self.err)),
+        )
 
     def end_of(self, child: int) -> int | None:
         try:
@@ -109,9 +120,9 @@ class Caller:
 def model_of(folder: str) -> Any:
     """The commands of the repository's model, or of another whose folder has `top.py`."""
     if Path(folder) == MODEL:
-        return importlib.import_module('model.commands')
+        return importlib.import_module("model.commands")
     site.addsitedir(folder)
-    return importlib.import_module('top')
+    return importlib.import_module("top")
 
 
 class Model:
@@ -126,7 +137,7 @@ class Model:
         try:
             texts = [word.decode() for word in words]
         except UnicodeDecodeError:
-            return Status.USAGE, b''
+            return Status.USAGE, b""
         sink = self.top.MemSink()
         ports = [self.top.HeldPort() for _ in range(8)]
         try:
@@ -139,6 +150,7 @@ class Model:
 @dataclass
 class Finding:
     """A line with a wrong end, and its fault."""
+
     number: int
     line: Line
     ended: Ended
@@ -148,11 +160,12 @@ class Finding:
 @dataclass
 class Tally:
     """The result of a batch."""
+
     ends: Counter[tuple[str, int]] = field(default_factory=Counter)
     compared: Counter[str] = field(default_factory=Counter)
     findings: list[Finding] = field(default_factory=list)
 
-    def add(self, other: 'Tally') -> None:
+    def add(self, other: "Tally") -> None:
         self.ends += other.ends
         self.compared += other.compared
         self.findings += other.findings
@@ -161,25 +174,27 @@ class Tally:
 def wrong_of(ended: Ended) -> str | None:
     """The fault of an end that is wrong for every command line, or nothing."""
     if ended.status is None:
-        return 'no end in time'
+        return "no end in time"
     if ended.status < 0:
-        return f'ended by {signal.Signals(-ended.status).name}'
+        return f"ended by {signal.Signals(-ended.status).name}"
     if ended.status not in list(Status):
-        return 'a status that is not listed'
+        return "a status that is not listed"
     if ended.status in (Status.WRITE, Status.NO_MEMORY):
-        return 'output and memory were there'
+        return "output and memory were there"
     text = TEXT_OF_STATUS.get(Status(ended.status))
     if text is not None and not text.fullmatch(ended.out):
-        return f'not a text of status {ended.status}'
+        return f"not a text of status {ended.status}"
     if ended.err != complaint(ended.status):
-        return 'another line of standard error'
+        return "another line of standard error"
     return None
 
 
 class Worker:
     """A process that draws lines, calls the program and compares."""
 
-    def __init__(self, seed: int, program: Path, model: str | None, room: str, seconds: float, memory: int) -> None:
+    def __init__(
+        self, seed: int, program: Path, model: str | None, room: str, seconds: float, memory: int
+    ) -> None:
         self.seed = seed
         self.seeds: Corpus = corpus()
         os.chdir(tempfile.mkdtemp(dir=room))
@@ -190,7 +205,7 @@ class Worker:
 
     def line(self, number: int) -> Line:
         """Draws line `number`, and puts its files into the folder."""
-        chance = random.Random(f'{self.seed}:{number}')
+        chance = random.Random(f"{self.seed}:{number}")
         hostile = Hostile(self.seeds, chance, few=number % SAMPLE == 0)
         line = hostile.line()
         for name in os.listdir():
@@ -198,14 +213,18 @@ class Worker:
         write_files(line)
         if line.recorded is not None:
             recorded = self.caller.call(line.recorded).out
-            line.files['a.trace'] = recorded if chance.random() < 0.4 else hostile.text_of(recorded, ['', '0', 'wait'])
+            line.files["a.trace"] = (
+                recorded if chance.random() < 0.4 else hostile.text_of(recorded, ["", "0", "wait"])
+            )
             write_files(line)
         return line
 
     def try_line(self, number: int, tally: Tally) -> None:
         line = self.line(number)
         ended = self.caller.call(line.words)
-        tally.ends[line.command(), ended.status if ended.status is not None else -signal.SIGALRM] += 1
+        tally.ends[
+            line.command(), ended.status if ended.status is not None else -signal.SIGALRM
+        ] += 1
         wrong = wrong_of(ended)
         if wrong is None and self.model and number % SAMPLE == 0:
             wrong = self.compare(line, ended, tally)
@@ -217,11 +236,11 @@ class Worker:
         try:
             wanted = self.model.answer(line.words)
         except Exception as error:
-            return f'the model fails: {error!r}'
-        tally.compared['not in time' if wanted is None else 'compared'] += 1
+            return f"the model fails: {error!r}"
+        tally.compared["not in time" if wanted is None else "compared"] += 1
         if wanted is None or wanted == (ended.status, ended.out):
             return None
-        return f'the model has status {wanted[0]} and {len(wanted[1])} bytes: {wanted[1][:100]!r}'
+        return f"the model has status {wanted[0]} and {len(wanted[1])} bytes: {wanted[1][:100]!r}"
 
 
 def write_files(line: Line) -> None:
@@ -247,8 +266,9 @@ def batch(numbers: range) -> Tally:
 
 # ---------------------------------------------------------------- the whole
 
+
 def shown(words: list[bytes]) -> str:
-    return ' '.join(repr(word)[1:][:60] for word in words)
+    return " ".join(repr(word)[1:][:60] for word in words)
 
 
 def keep(finding: Finding, folder: Path) -> None:
@@ -257,9 +277,9 @@ def keep(finding: Finding, folder: Path) -> None:
     to.mkdir(parents=True, exist_ok=True)
     for name, content in finding.line.files.items():
         (to / name).write_bytes(content)
-    said = f'{finding.wrong}\nstatus {finding.ended.status}\nwords {finding.line.words!r}\nstandard error {finding.ended.err!r}\n'
-    (to / 'finding').write_text(said)
-    (to / 'written').write_bytes(finding.ended.out)
+    said = f"{finding.wrong}\nstatus {finding.ended.status}\nwords {finding.line.words!r}\nstandard error {finding.ended.err!r}\n"
+    (to / "finding").write_text(said)
+    (to / "written").write_bytes(finding.ended.out)
 
 
 def results(pool: ProcessPoolExecutor, numbers: range, jobs: int) -> Iterator[Tally]:
@@ -276,11 +296,11 @@ def results(pool: ProcessPoolExecutor, numbers: range, jobs: int) -> Iterator[Ta
 def print_table(tally: Tally) -> None:
     """How many lines of each command ended with each status."""
     statuses = sorted({status for _, status in tally.ends})
-    print(f'{"":8}' + ''.join(f'{status:>9}' for status in statuses))
-    for command in [*COMMANDS, 'other']:
+    print(f'{"":8}' + "".join(f"{status:>9}" for status in statuses))
+    for command in [*COMMANDS, "other"]:
         counts = [tally.ends[command, status] for status in statuses]
         if any(counts):
-            print(f'{command:8}' + ''.join(f'{count:9}' for count in counts))
+            print(f"{command:8}" + "".join(f"{count:9}" for count in counts))
 
 
 def fuzz(options: argparse.Namespace, given: tuple[Any, ...]) -> Tally:
@@ -294,30 +314,58 @@ def fuzz(options: argparse.Namespace, given: tuple[Any, ...]) -> Tally:
                 done += sum(tally.ends.values())
                 for finding in tally.findings:
                     keep(finding, options.keep)
-                    print(f'line {finding.number}: {finding.wrong}: {shown(finding.line.words)}', flush=True)
+                    print(
+                        f"line {finding.number}: {finding.wrong}: {shown(finding.line.words)}",
+                        flush=True,
+                    )
                 if done % (50 * BATCH) == 0:
-                    print(f'{done} lines, {done / (time.monotonic() - began):.0f} a second', flush=True)
+                    print(
+                        f"{done} lines, {done / (time.monotonic() - began):.0f} a second",
+                        flush=True,
+                    )
         except KeyboardInterrupt:
             pool.shutdown(cancel_futures=True)
-    print(f'{done} lines from {options.first} on with seed {options.seed}, in {time.monotonic() - began:.0f} s; '
-          f'{dict(total.compared)} with the model; {len(total.findings)} findings')
+    print(
+        f"{done} lines from {options.first} on with seed {options.seed}, in {time.monotonic() - began:.0f} s; "
+        f"{dict(total.compared)} with the model; {len(total.findings)} findings"
+    )
     return total
 
 
 def parsed() -> argparse.Namespace:
     parser = argparse.ArgumentParser(description=__doc__)
-    parser.add_argument('--program', help='the built program (left out: the one that ./flexpret and rt ci leave)')
-    parser.add_argument('--model', metavar='DIR', default=MODEL,
-                        help="another executable model than the repository's: a folder whose top.py has flexpret()")
-    parser.add_argument('--no-model', dest='model', action='store_const', const=None, help='compare with no model')
-    parser.add_argument('--seed', type=int, default=1)
-    parser.add_argument('--first', type=int, default=0, metavar='N', help='the number of the first line')
-    parser.add_argument('--count', type=int, default=10_000, metavar='N', help='how many lines')
-    parser.add_argument('--only', type=int, metavar='N', help='line N alone; --keep has its files afterwards')
-    parser.add_argument('--jobs', type=int, default=1, metavar='N', help='how many lines at a time')
-    parser.add_argument('--seconds', type=float, default=10, metavar='S', help='the time of a call')
-    parser.add_argument('--memory', type=int, default=512, metavar='MIB', help='the address space of a call')
-    parser.add_argument('--keep', type=Path, default=Path('fuzz-found'), metavar='DIR', help='where findings are kept')
+    parser.add_argument(
+        "--program", help="the built program (left out: the one that ./flexpret and rt ci leave)"
+    )
+    parser.add_argument(
+        "--model",
+        metavar="DIR",
+        default=MODEL,
+        help="another executable model than the repository's: a folder whose top.py has flexpret()",
+    )
+    parser.add_argument(
+        "--no-model", dest="model", action="store_const", const=None, help="compare with no model"
+    )
+    parser.add_argument("--seed", type=int, default=1)
+    parser.add_argument(
+        "--first", type=int, default=0, metavar="N", help="the number of the first line"
+    )
+    parser.add_argument("--count", type=int, default=10_000, metavar="N", help="how many lines")
+    parser.add_argument(
+        "--only", type=int, metavar="N", help="line N alone; --keep has its files afterwards"
+    )
+    parser.add_argument("--jobs", type=int, default=1, metavar="N", help="how many lines at a time")
+    parser.add_argument("--seconds", type=float, default=10, metavar="S", help="the time of a call")
+    parser.add_argument(
+        "--memory", type=int, default=512, metavar="MIB", help="the address space of a call"
+    )
+    parser.add_argument(
+        "--keep",
+        type=Path,
+        default=Path("fuzz-found"),
+        metavar="DIR",
+        help="where findings are kept",
+    )
     return parser.parse_args()
 
 
@@ -327,9 +375,17 @@ def try_one(options: argparse.Namespace, given: tuple[Any, ...]) -> Tally:
     tally, line = Tally(), WORKER[0].line(options.only)
     ended = WORKER[0].caller.call(line.words)
     WORKER[0].try_line(options.only, tally)
-    keep(Finding(options.only, line, ended, tally.findings[0].wrong if tally.findings else 'nothing wrong'), options.keep)
-    print((options.keep / str(options.only) / 'finding').read_text(), end='')
-    os.chdir('/')
+    keep(
+        Finding(
+            options.only,
+            line,
+            ended,
+            tally.findings[0].wrong if tally.findings else "nothing wrong",
+        ),
+        options.keep,
+    )
+    print((options.keep / str(options.only) / "finding").read_text(), end="")
+    os.chdir("/")
     return tally
 
 
@@ -337,12 +393,21 @@ def main() -> int:
     options = parsed()
     model = str(Path(options.model).resolve()) if options.model else None
     options.keep = options.keep.resolve()
-    with tempfile.TemporaryDirectory(prefix='fuzz-', dir='/dev/shm' if os.path.isdir('/dev/shm') else None) as room:
-        given = (options.seed, built_program(options.program), model, room, options.seconds, options.memory)
+    with tempfile.TemporaryDirectory(
+        prefix="fuzz-", dir="/dev/shm" if os.path.isdir("/dev/shm") else None
+    ) as room:
+        given = (
+            options.seed,
+            built_program(options.program),
+            model,
+            room,
+            options.seconds,
+            options.memory,
+        )
         tally = fuzz(options, given) if options.only is None else try_one(options, given)
     print_table(tally)
     return 1 if tally.findings else 0
 
 
-if __name__ == '__main__':
+if __name__ == "__main__":
     sys.exit(main())

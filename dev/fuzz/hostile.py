@@ -8,40 +8,224 @@ from dataclasses import dataclass, field
 from dev.program import TOP
 from dev.gate.tables import cases, columns, repeated, unescaped
 
-EDGES = sorted({base + step for base in (0, 4, 8, 16, 32, 128, 256, 1000, 1152, 4096, 16384, 34816, 65536, 139264, 262144,
-                                         1 << 20, 1 << 22, 1 << 29, 1 << 30, 1 << 31, 1 << 32, 4_000_000_000, 1 << 63, 1 << 64)
-                for step in (-4, -1, 0, 1, 4)})
+EDGES = sorted(
+    {
+        base + step
+        for base in (
+            0,
+            4,
+            8,
+            16,
+            32,
+            128,
+            256,
+            1000,
+            1152,
+            4096,
+            16384,
+            34816,
+            65536,
+            139264,
+            262144,
+            1 << 20,
+            1 << 22,
+            1 << 29,
+            1 << 30,
+            1 << 31,
+            1 << 32,
+            4_000_000_000,
+            1 << 63,
+            1 << 64,
+        )
+        for step in (-4, -1, 0, 1, 4)
+    }
+)
 """Numbers at and next to the limits of some range."""
 
 SETUP_PIECES = [
-    'version = 2', 'version = 3', 'period = 0', 'period = 1000', 'image = ""', 'image = "a.fpx"', '[[thread]]', '[thread]',
-    '[[loop]]', '[[loops]]', 'id = 7', 'id = 8', 'mode = "hard"', 'mode = "soft"', 'mode = "hard-asleep"', 'mode = "Hard"',
-    'entry = 0x10', 'entry = 2', 'confined = true', 'permit = true', 'confined = "true"', 'unplug = 0', 'unplug = 4000000001',
-    'inputs = [[0, 1], [0, 2]]', 'inputs = [[1, 2], [3]]', 'inputs = []', 'head = 0', 'last = 0', 'bound = 1048577',
-    '"a" = 1', "'", '"""', '[[[', '= 1', '1979-05-27', 'inf', '{ a = 1 }', '\u00e4 = 1', '\ufeff', '# \u0000', 'a.b = 1',
+    "version = 2",
+    "version = 3",
+    "period = 0",
+    "period = 1000",
+    'image = ""',
+    'image = "a.fpx"',
+    "[[thread]]",
+    "[thread]",
+    "[[loop]]",
+    "[[loops]]",
+    "id = 7",
+    "id = 8",
+    'mode = "hard"',
+    'mode = "soft"',
+    'mode = "hard-asleep"',
+    'mode = "Hard"',
+    "entry = 0x10",
+    "entry = 2",
+    "confined = true",
+    "permit = true",
+    'confined = "true"',
+    "unplug = 0",
+    "unplug = 4000000001",
+    "inputs = [[0, 1], [0, 2]]",
+    "inputs = [[1, 2], [3]]",
+    "inputs = []",
+    "head = 0",
+    "last = 0",
+    "bound = 1048577",
+    '"a" = 1',
+    "'",
+    '"""',
+    "[[[",
+    "= 1",
+    "1979-05-27",
+    "inf",
+    "{ a = 1 }",
+    "\u00e4 = 1",
+    "\ufeff",
+    "# \u0000",
+    "a.b = 1",
 ]
 
 SOURCE_PIECES = [
-    'nop', 'li x5, -2048', 'li x31, 4294967296', 'la x1, a', 'a:', 'a: a:', 'beq x0, x0, a', 'j a+4', '.org 0x20000000',
-    '.org 16380', '.word 1, -1, a', '.space 16384', '.space 3', 'lw x1, 2048(x2)', 'csrrw x0, slots, x1', 'csrrwi x0, 4096, 1',
-    'du x1, x2', 'ee x0, x1', 'fence.i', 'mul x1, x2, x3', 'call a', '0x', '0X1', '1a', '@', '\u00e4', ',,,', '- 5', '\r', '\t',
-    ' '.join(['nop'] * 65), '# \u0000', '.', '_:', 'add', 'jal x1, 1048576', 'bnez x5, 4096', 'ret', 'csrr x1, 0xfff',
+    "nop",
+    "li x5, -2048",
+    "li x31, 4294967296",
+    "la x1, a",
+    "a:",
+    "a: a:",
+    "beq x0, x0, a",
+    "j a+4",
+    ".org 0x20000000",
+    ".org 16380",
+    ".word 1, -1, a",
+    ".space 16384",
+    ".space 3",
+    "lw x1, 2048(x2)",
+    "csrrw x0, slots, x1",
+    "csrrwi x0, 4096, 1",
+    "du x1, x2",
+    "ee x0, x1",
+    "fence.i",
+    "mul x1, x2, x3",
+    "call a",
+    "0x",
+    "0X1",
+    "1a",
+    "@",
+    "\u00e4",
+    ",,,",
+    "- 5",
+    "\r",
+    "\t",
+    " ".join(["nop"] * 65),
+    "# \u0000",
+    ".",
+    "_:",
+    "add",
+    "jal x1, 1048576",
+    "bnez x5, 4096",
+    "ret",
+    "csrr x1, 0xfff",
 ]
 
 HOSTILE_WORDS = [
-    b'', b'-', b'--', b'--thread', b'--cycles', b'--trace', b'--routines', b'--from', b'--to', b'--help', b'-h', b'--version',
-    b'--thread=', b'--thread=0', b'--thread=8', b'--thread=00', b'--cycles=0', b'--cycles=5', b'--cycles=-1', b'--cycles=+1',
-    b'--cycles=00000000005', b'--cycles=0000000005', b'--cycles=4000000001', b'--cycles=5=5', b'--cycles==5', b'--from=0X10',
-    b'--from=0x', b'--from=0x000000010', b'--to=4294967296', b'--to=0xffffffff', b'0', b'7', b'help', b'run', b'selfrun', b'5 ',
-    b' 5', b'\xff', b'a.toml\xff', b'\xc3\xa4', b'--\xc3\xa4=1', b'--thre', b'--thread 0', b'/dev/null', b'/dev/zero', b'.', b'..',
-    b'/', b'a.fpx', b'a.toml', b'a.s', b'a.elf', b'isnt', b'a' * 300, b'a' * 100_000, b'--cycles=' + b'0' * 100_000, b'\n', b'%s',
-    b"'", b'"', b'\\', b'$(true)', b'--no-thread', b'@a.toml',
+    b"",
+    b"-",
+    b"--",
+    b"--thread",
+    b"--cycles",
+    b"--trace",
+    b"--routines",
+    b"--from",
+    b"--to",
+    b"--help",
+    b"-h",
+    b"--version",
+    b"--thread=",
+    b"--thread=0",
+    b"--thread=8",
+    b"--thread=00",
+    b"--cycles=0",
+    b"--cycles=5",
+    b"--cycles=-1",
+    b"--cycles=+1",
+    b"--cycles=00000000005",
+    b"--cycles=0000000005",
+    b"--cycles=4000000001",
+    b"--cycles=5=5",
+    b"--cycles==5",
+    b"--from=0X10",
+    b"--from=0x",
+    b"--from=0x000000010",
+    b"--to=4294967296",
+    b"--to=0xffffffff",
+    b"0",
+    b"7",
+    b"help",
+    b"run",
+    b"selfrun",
+    b"5 ",
+    b" 5",
+    b"\xff",
+    b"a.toml\xff",
+    b"\xc3\xa4",
+    b"--\xc3\xa4=1",
+    b"--thre",
+    b"--thread 0",
+    b"/dev/null",
+    b"/dev/zero",
+    b".",
+    b"..",
+    b"/",
+    b"a.fpx",
+    b"a.toml",
+    b"a.s",
+    b"a.elf",
+    b"isnt",
+    b"a" * 300,
+    b"a" * 100_000,
+    b"--cycles=" + b"0" * 100_000,
+    b"\n",
+    b"%s",
+    b"'",
+    b'"',
+    b"\\",
+    b"$(true)",
+    b"--no-thread",
+    b"@a.toml",
 ]
 
 SPECIAL_WORDS = [
-    0, 0xffffffff, 0x00000073, 0x00100073, 0x30200073, 0x0000100f, 0x0000000f, 0x00008067, 0x0000006f, 0x7c009073, 0x7c109073,
-    0x7c209073, 0x7c309073, 0x30509073, 0xf1402573, 0x0000050b, 0x0000158b, 0x0010300b, 0x0020200b, 0x0020400b, 0x0000500b,
-    0x200000b7, 0x40000137, 0x0000a023, 0x0000a103, 0x00012283, 0xfe029ee3, 0xfff28293, 0x02208133, 0x0220c133,
+    0,
+    0xFFFFFFFF,
+    0x00000073,
+    0x00100073,
+    0x30200073,
+    0x0000100F,
+    0x0000000F,
+    0x00008067,
+    0x0000006F,
+    0x7C009073,
+    0x7C109073,
+    0x7C209073,
+    0x7C309073,
+    0x30509073,
+    0xF1402573,
+    0x0000050B,
+    0x0000158B,
+    0x0010300B,
+    0x0020200B,
+    0x0020400B,
+    0x0000500B,
+    0x200000B7,
+    0x40000137,
+    0x0000A023,
+    0x0000A103,
+    0x00012283,
+    0xFE029EE3,
+    0xFFF28293,
+    0x02208133,
+    0x0220C133,
 ]
 """Words of the machine's own instructions, of ends of visits, and of loads, stores and loops."""
 
@@ -54,6 +238,7 @@ MANY_CYCLES = 20_000
 @dataclass
 class Corpus:
     """The files to mutate: setups with their images, and files of each other kind."""
+
     setups: list[tuple[bytes, bytes]] = field(default_factory=list)
     called: list[tuple[bytes, bytes, bytes]] = field(default_factory=list)
     sources: list[bytes] = field(default_factory=list)
@@ -69,49 +254,54 @@ LARGEST_SEED = 70_000
 
 
 def example(name: str) -> bytes:
-    return (TOP / 'examples' / name).read_bytes()
+    return (TOP / "examples" / name).read_bytes()
 
 
 def corpus() -> Corpus:
     """The examples and the tables of the rows."""
     read = Corpus()
-    for name in ('drive', 'sum', 'calls', 'c/pid'):
-        setup = IMAGE_NAME.sub(b'image = "a.fpx"', example(f'{name}.toml'))
-        read.setups.append((setup, example(f'{name}.fpx')))
-        read.traces.append(example(f'{name}.trace'))
-    read.called.append((*read.setups[2], example('calls.routines')))
+    for name in ("drive", "sum", "calls", "c/pid"):
+        setup = IMAGE_NAME.sub(b'image = "a.fpx"', example(f"{name}.toml"))
+        read.setups.append((setup, example(f"{name}.fpx")))
+        read.traces.append(example(f"{name}.trace"))
+    read.called.append((*read.setups[2], example("calls.routines")))
     add_cases(read)
-    read.sources = [example('drive.s'), example('sum.s'), example('calls.s')]
-    read.sources += [unescaped(row[-1]) for row in columns('sources.txt') if len(row) == 2]
-    read.executables = [example('c/pid.elf')] + [repeated(row[-1]) for row in columns('elf.txt') if len(row[-1]) < LARGEST_SEED]
-    read.routines = [unescaped(row[-1].partition(' ')[2]) for row in columns('routines.txt')]
-    read.words = SPECIAL_WORDS * 10 + [int(row[0].split()[0], 16) for row in columns('decode.txt')]
+    read.sources = [example("drive.s"), example("sum.s"), example("calls.s")]
+    read.sources += [unescaped(row[-1]) for row in columns("sources.txt") if len(row) == 2]
+    read.executables = [example("c/pid.elf")] + [
+        repeated(row[-1]) for row in columns("elf.txt") if len(row[-1]) < LARGEST_SEED
+    ]
+    read.routines = [unescaped(row[-1].partition(" ")[2]) for row in columns("routines.txt")]
+    read.words = SPECIAL_WORDS * 10 + [int(row[0].split()[0], 16) for row in columns("decode.txt")]
     return read
 
 
 def add_cases(read: Corpus) -> None:
     """Adds the setups of the tables of cases."""
-    for table in ('worked.txt', 'commands.txt', 'settings.txt', 'worlds.txt', 'calls.txt'):
+    for table in ("worked.txt", "commands.txt", "settings.txt", "worlds.txt", "calls.txt"):
         for case in cases(table):
             setup = case.setup()
             if setup is None:
                 continue
             read.setups.append(setup)
-            lists = [content for name, content in case.files.items() if name not in ('a.toml', 'a.fpx')]
-            if table == 'calls.txt' and lists:
+            lists = [
+                content for name, content in case.files.items() if name not in ("a.toml", "a.fpx")
+            ]
+            if table == "calls.txt" and lists:
                 read.called.append((*setup, lists[0]))
 
 
 @dataclass
 class Line:
     """A command line, the files that it may read, and the file that gets the output of `solo` as a recorded trace."""
+
     words: list[bytes]
     files: dict[str, bytes] = field(default_factory=dict)
     recorded: list[bytes] | None = None
 
     def command(self) -> str:
-        name = self.words[0].decode(errors='replace') if self.words else ''
-        return name if name in COMMANDS else 'other'
+        name = self.words[0].decode(errors="replace") if self.words else ""
+        return name if name in COMMANDS else "other"
 
 
 class Hostile:
@@ -134,9 +324,9 @@ class Hostile:
             if self.chance.random() < 0.15:
                 data = self.bytes_of(data)
             else:
-                lines = data.split(b'\n')
+                lines = data.split(b"\n")
                 self.chance.choice(LINE_CHANGES)(self.chance, lines, pieces)
-                data = b'\n'.join(lines)
+                data = b"\n".join(lines)
         return data
 
     def code_of(self, image: bytes) -> bytes:
@@ -147,7 +337,7 @@ class Hostile:
         changed = bytearray(image)
         for _ in range(self.chance.choice((1, 1, 2, 4, 16))):
             place = self.chance.choice(places)
-            changed[place:place + 4] = struct.pack('<I', self.word())
+            changed[place : place + 4] = struct.pack("<I", self.word())
         return bytes(changed)
 
     def word(self) -> int:
@@ -167,37 +357,48 @@ class Hostile:
 
     def machine(self) -> dict[str, bytes]:
         setup, image = self.chance.choice(self.seeds.setups)
-        return {'a.toml': self.setup_of(setup), 'a.fpx': self.image_of(image)}
+        return {"a.toml": self.setup_of(setup), "a.fpx": self.image_of(image)}
 
     def cycles(self, most: int = MANY_CYCLES) -> bytes:
         draw = self.chance.random()
         if draw < 0.3:
-            return b'%d' % self.chance.randrange(12)
+            return b"%d" % self.chance.randrange(12)
         if self.few or draw < 0.9:
-            return b'%d' % self.chance.randrange(FEW_CYCLES)
-        return b'%d' % self.chance.randrange(most)
+            return b"%d" % self.chance.randrange(FEW_CYCLES)
+        return b"%d" % self.chance.randrange(most)
 
     def thread(self, setup: bytes) -> bytes:
         """Mostly a hard thread of a setup: only these have bounds and a trace by `solo`."""
         hard: list[bytes] = HARD_THREAD.findall(setup)
-        return self.chance.choice(hard) if hard and self.chance.random() < 0.8 else b'%d' % self.chance.randrange(8)
+        return (
+            self.chance.choice(hard)
+            if hard and self.chance.random() < 0.8
+            else b"%d" % self.chance.randrange(8)
+        )
 
     def section(self, setup: bytes) -> list[bytes]:
         """A section that begins and ends near the loops of a setup, or anywhere."""
-        places = [int(found, 0) for found in re.findall(rb'(?:head|last|entry) = (0x[0-9a-f]{1,8}|0|[1-9][0-9]{0,8})\b', setup)]
+        places = [
+            int(found, 0)
+            for found in re.findall(
+                rb"(?:head|last|entry) = (0x[0-9a-f]{1,8}|0|[1-9][0-9]{0,8})\b", setup
+            )
+        ]
         first = self.chance.choice((places or [0]) + [0, 4 * self.chance.randrange(64)])
         last = max([*places, first]) + 4 * self.chance.choice((1, 1, 1, 2, 3, 8))
         if self.chance.random() < 0.1:
             first, last = self.chance.choice(EDGES), self.chance.choice(EDGES)
-        return [b'--from', b'%d' % first, b'--to', b'0x%x' % last if last >= 0 else b'%d' % last]
+        return [b"--from", b"%d" % first, b"--to", b"0x%x" % last if last >= 0 else b"%d" % last]
 
     # ------------------------------------------------------------ lines
 
     def line(self) -> Line:
         """A line of some command, whose arguments are changed now and then."""
-        command = self.chance.choices(list(COMMANDS), [weight for _, weight in COMMANDS.values()])[0]
-        if self.few and command == 'selfrun':
-            command = 'dump'
+        command = self.chance.choices(list(COMMANDS), [weight for _, weight in COMMANDS.values()])[
+            0
+        ]
+        if self.few and command == "selfrun":
+            command = "dump"
         line = COMMANDS[command][0](self, command.encode())
         if self.chance.random() < 0.15:
             self.change_words(line)
@@ -210,49 +411,81 @@ class Hostile:
 
     def run(self, command: bytes) -> Line:
         files = self.machine()
-        return Line([command, b'a.toml', b'--thread', self.thread(files['a.toml']), b'--cycles', self.cycles()], files)
+        return Line(
+            [
+                command,
+                b"a.toml",
+                b"--thread",
+                self.thread(files["a.toml"]),
+                b"--cycles",
+                self.cycles(),
+            ],
+            files,
+        )
 
     def whole(self, command: bytes) -> Line:
-        return Line([command, b'a.toml', b'--cycles', self.cycles()], self.machine())
+        return Line([command, b"a.toml", b"--cycles", self.cycles()], self.machine())
 
     def check(self, command: bytes) -> Line:
         line = self.run(command)
-        line.files['a.trace'] = self.chance.choice([*self.seeds.traces, b''])
+        line.files["a.trace"] = self.chance.choice([*self.seeds.traces, b""])
         if self.chance.random() < 0.7:
-            line.recorded = [b'solo', *line.words[1:]]
-        line.words += [b'--trace', b'a.trace']
+            line.recorded = [b"solo", *line.words[1:]]
+        line.words += [b"--trace", b"a.trace"]
         return line
 
     def bound(self, command: bytes) -> Line:
         files = self.machine()
-        setup = files['a.toml']
-        return Line([command, b'a.toml', b'--thread', self.thread(setup), *self.section(setup)], files)
+        setup = files["a.toml"]
+        return Line(
+            [command, b"a.toml", b"--thread", self.thread(setup), *self.section(setup)], files
+        )
 
     def calls(self, command: bytes) -> Line:
         setup, image, routines = self.chance.choice(self.seeds.called)
         if self.chance.random() < 0.3:
             routines = self.chance.choice(self.seeds.routines)
         if self.chance.random() < 0.3:
-            routines = self.text_of(routines, ['00000100 00000104', '00000000 00000000', '', '0000fffc 0000fffc'])
+            routines = self.text_of(
+                routines, ["00000100 00000104", "00000000 00000000", "", "0000fffc 0000fffc"]
+            )
         setup = self.setup_of(setup)
-        words = [command, b'a.toml', b'--thread', self.thread(setup), *self.section(setup), b'--routines', b'a.routines']
-        return Line(words, {'a.toml': setup, 'a.fpx': self.image_of(image), 'a.routines': routines})
+        words = [
+            command,
+            b"a.toml",
+            b"--thread",
+            self.thread(setup),
+            *self.section(setup),
+            b"--routines",
+            b"a.routines",
+        ]
+        return Line(words, {"a.toml": setup, "a.fpx": self.image_of(image), "a.routines": routines})
 
     def assemble(self, command: bytes) -> Line:
         source = self.text_of(self.chance.choice(self.seeds.sources), SOURCE_PIECES)
-        return Line([command, b'a.s'], {'a.s': source})
+        return Line([command, b"a.s"], {"a.s": source})
 
     def executable(self, command: bytes) -> Line:
-        return Line([command, b'a.elf'], {'a.elf': self.bytes_of(self.chance.choice(self.seeds.executables))})
+        return Line(
+            [command, b"a.elf"],
+            {"a.elf": self.bytes_of(self.chance.choice(self.seeds.executables))},
+        )
 
     def own_run(self, command: bytes) -> Line:
-        return Line([command, b'%d' % self.chance.choice(EDGES)])
+        return Line([command, b"%d" % self.chance.choice(EDGES)])
 
 
 COMMANDS: dict[str, tuple[Callable[[Hostile, bytes], Line], int]] = {
-    'run': (Hostile.run, 20), 'dump': (Hostile.whole, 10), 'phases': (Hostile.whole, 10), 'solo': (Hostile.run, 10),
-    'check': (Hostile.check, 10), 'bound': (Hostile.bound, 13), 'calls': (Hostile.calls, 10),
-    'asm': (Hostile.assemble, 9), 'elf': (Hostile.executable, 8), 'selfrun': (Hostile.own_run, 1),
+    "run": (Hostile.run, 20),
+    "dump": (Hostile.whole, 10),
+    "phases": (Hostile.whole, 10),
+    "solo": (Hostile.run, 10),
+    "check": (Hostile.check, 10),
+    "bound": (Hostile.bound, 13),
+    "calls": (Hostile.calls, 10),
+    "asm": (Hostile.assemble, 9),
+    "elf": (Hostile.executable, 8),
+    "selfrun": (Hostile.own_run, 1),
 }
 """The function that draws a line of each command, and its weight in 101."""
 
@@ -262,7 +495,7 @@ def word_places(image: bytes) -> list[int]:
     places: list[int] = []
     at = 8
     while at + 8 <= len(image):
-        length, = struct.unpack_from('<I', image, at + 4)
+        (length,) = struct.unpack_from("<I", image, at + 4)
         if length % 4 or at + 8 + length > len(image):
             break
         places.extend(range(at + 8, at + 8 + length, 4))
@@ -272,26 +505,27 @@ def word_places(image: bytes) -> list[int]:
 
 # ---------------------------------------------------------------- changes of bytes
 
+
 def flip(chance: random.Random, data: bytes) -> bytes:
     if not data:
-        return b'\x00'
+        return b"\x00"
     place = chance.randrange(len(data))
-    return data[:place] + bytes([data[place] ^ 1 << chance.randrange(8)]) + data[place + 1:]
+    return data[:place] + bytes([data[place] ^ 1 << chance.randrange(8)]) + data[place + 1 :]
 
 
 def cut(chance: random.Random, data: bytes) -> bytes:
-    return data[:chance.randrange(len(data) + 1)]
+    return data[: chance.randrange(len(data) + 1)]
 
 
 def drop(chance: random.Random, data: bytes) -> bytes:
     first = chance.randrange(len(data) + 1)
-    return data[:first] + data[first + chance.choice((1, 1, 2, 4, 16)):]
+    return data[:first] + data[first + chance.choice((1, 1, 2, 4, 16)) :]
 
 
 def double(chance: random.Random, data: bytes) -> bytes:
     first = chance.randrange(len(data) + 1)
-    piece = data[first:first + chance.choice((1, 4, 16, 200))]
-    return data[:first] + piece * chance.choice((2, 2, 3, 100)) + data[first + len(piece):]
+    piece = data[first : first + chance.choice((1, 4, 16, 200))]
+    return data[:first] + piece * chance.choice((2, 2, 3, 100)) + data[first + len(piece) :]
 
 
 def insert(chance: random.Random, data: bytes) -> bytes:
@@ -302,7 +536,7 @@ def insert(chance: random.Random, data: bytes) -> bytes:
 def number(chance: random.Random, data: bytes) -> bytes:
     """Another number in four bytes at a multiple of four, which may be a field."""
     place = 4 * chance.randrange(min(len(data), 256) // 4 + 1)
-    return data[:place] + struct.pack('<I', chance.choice(EDGES) % (1 << 32)) + data[place + 4:]
+    return data[:place] + struct.pack("<I", chance.choice(EDGES) % (1 << 32)) + data[place + 4 :]
 
 
 BYTE_CHANGES = [flip, flip, cut, drop, double, insert, number, number]
@@ -310,18 +544,18 @@ BYTE_CHANGES = [flip, flip, cut, drop, double, insert, number, number]
 
 # ---------------------------------------------------------------- changes of lines
 
-DIGITS = re.compile(rb'0x[0-9a-fA-F]+|[0-9]+')
+DIGITS = re.compile(rb"0x[0-9a-fA-F]+|[0-9]+")
 
 
 def drop_line(chance: random.Random, lines: list[bytes], _: Sequence[str]) -> None:
     del lines[chance.randrange(len(lines))]
     if not lines:
-        lines.append(b'')
+        lines.append(b"")
 
 
 def double_line(chance: random.Random, lines: list[bytes], _: Sequence[str]) -> None:
     first = chance.randrange(len(lines))
-    piece = lines[first:first + chance.choice((1, 1, 4, 8))]
+    piece = lines[first : first + chance.choice((1, 1, 4, 8))]
     lines[first:first] = piece * chance.choice((1, 1, 1, 2, 60))
 
 
@@ -341,26 +575,40 @@ def change_number(chance: random.Random, lines: list[bytes], _: Sequence[str]) -
         return
     k = chance.choice(having)
     found = chance.choice(list(DIGITS.finditer(lines[k])))
-    value = chance.choice(EDGES) if chance.random() < 0.4 else int(found[0], 16 if found[0][:2] == b'0x' else 10) + chance.choice(
-        (-4, -1, 1, 4))
-    text = b'%d' % value if chance.random() < 0.7 or value < 0 else b'0x%x' % value
-    lines[k] = lines[k][:found.start()] + text + lines[k][found.end():]
+    value = (
+        chance.choice(EDGES)
+        if chance.random() < 0.4
+        else int(found[0], 16 if found[0][:2] == b"0x" else 10) + chance.choice((-4, -1, 1, 4))
+    )
+    text = b"%d" % value if chance.random() < 0.7 or value < 0 else b"0x%x" % value
+    lines[k] = lines[k][: found.start()] + text + lines[k][found.end() :]
 
 
 def change_text(chance: random.Random, lines: list[bytes], _: Sequence[str]) -> None:
     """Replaces a word by another one of the text."""
-    words = re.findall(rb'[A-Za-z_.][A-Za-z0-9_.-]*', b'\n'.join(lines))
+    words = re.findall(rb"[A-Za-z_.][A-Za-z0-9_.-]*", b"\n".join(lines))
     k = chance.randrange(len(lines))
-    found = list(re.finditer(rb'[A-Za-z_.][A-Za-z0-9_.-]*', lines[k]))
+    found = list(re.finditer(rb"[A-Za-z_.][A-Za-z0-9_.-]*", lines[k]))
     if found:
         at = chance.choice(found)
-        lines[k] = lines[k][:at.start()] + chance.choice(words) + lines[k][at.end():]
+        lines[k] = lines[k][: at.start()] + chance.choice(words) + lines[k][at.end() :]
 
 
-LINE_CHANGES = [drop_line, double_line, swap_lines, add_piece, add_piece, change_number, change_number, change_number, change_text]
+LINE_CHANGES = [
+    drop_line,
+    double_line,
+    swap_lines,
+    add_piece,
+    add_piece,
+    change_number,
+    change_number,
+    change_number,
+    change_text,
+]
 
 
 # ---------------------------------------------------------------- changes of arguments
+
 
 def drop_word(chance: random.Random, words: list[bytes]) -> None:
     if words:
@@ -380,15 +628,23 @@ def swap_words(chance: random.Random, words: list[bytes]) -> None:
 
 def join_words(chance: random.Random, words: list[bytes]) -> None:
     """Joins two arguments by `=`, which is another spelling of an option."""
-    options = [k for k, word in enumerate(words[:-1]) if word.startswith(b'--')]
+    options = [k for k, word in enumerate(words[:-1]) if word.startswith(b"--")]
     if options:
         k = chance.choice(options)
-        words[k:k + 2] = [words[k] + b'=' + words[k + 1]]
+        words[k : k + 2] = [words[k] + b"=" + words[k + 1]]
 
 
 def hostile_word(chance: random.Random, words: list[bytes]) -> None:
     place = chance.randrange(len(words) + 1)
-    words[place:place + chance.randrange(2)] = [chance.choice(HOSTILE_WORDS)]
+    words[place : place + chance.randrange(2)] = [chance.choice(HOSTILE_WORDS)]
 
 
-WORD_CHANGES = [drop_word, double_word, swap_words, join_words, join_words, hostile_word, hostile_word]
+WORD_CHANGES = [
+    drop_word,
+    double_word,
+    swap_words,
+    join_words,
+    join_words,
+    hostile_word,
+    hostile_word,
+]

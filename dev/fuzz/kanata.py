@@ -21,7 +21,16 @@ from typing import Iterable
 HEAD = "Kanata\t0004"
 STAGES = ["F", "D", "E", "M", "W"]
 # The fields after each command: n for a number, t for a text, s for the name of a stage.
-FIELDS = {"C=": "n", "C": "n", "I": "nnn", "L": "nnt", "S": "nns", "E": "nns", "R": "nnn", "W": "nnn"}
+FIELDS = {
+    "C=": "n",
+    "C": "n",
+    "I": "nnn",
+    "L": "nnt",
+    "S": "nns",
+    "E": "nns",
+    "R": "nnn",
+    "W": "nnn",
+}
 # The largest type of a label, of an end and of an arrow.
 LAST_TYPE = {"L": 2, "R": 1, "W": 2}
 
@@ -46,7 +55,9 @@ class Instruction:
     is_done: bool = False
 
     def end_stage(self, lane: int, cycle: int) -> None:
-        must(cycle > self.begun, f"stage {self.lanes.pop(lane)} ends in the cycle in which it begins")
+        must(
+            cycle > self.begun, f"stage {self.lanes.pop(lane)} ends in the cycle in which it begins"
+        )
 
 
 class Log:
@@ -82,7 +93,10 @@ class Log:
         elif command == "S":
             self.begin(instruction, numbers[1], rest[2])
         elif command == "E":
-            must(instruction.lanes.get(numbers[1]) == rest[2], f"lane {numbers[1]} isn't in {rest[2]}")
+            must(
+                instruction.lanes.get(numbers[1]) == rest[2],
+                f"lane {numbers[1]} isn't in {rest[2]}",
+            )
             instruction.end_stage(numbers[1], self.now())
         elif command == "R":
             self.retire(instruction, is_flush=numbers[2] == 1)
@@ -112,7 +126,8 @@ class Log:
             f"{stage} comes behind {instruction.stages}",
         )
         must(
-            not instruction.stages or self.now() == instruction.begun + 1, f"{stage} isn't in the next cycle"
+            not instruction.stages or self.now() == instruction.begun + 1,
+            f"{stage} isn't in the next cycle",
         )
         if lane in instruction.lanes:
             instruction.end_stage(lane, self.now())
@@ -123,7 +138,8 @@ class Log:
     def retire(self, instruction: Instruction, is_flush: bool) -> None:
         must(instruction.labels >= {0, 1}, "it ends with no label or no detail")
         must(
-            instruction.stages == (STAGES[:2] if is_flush else STAGES), f"it ends behind {instruction.stages}"
+            instruction.stages == (STAGES[:2] if is_flush else STAGES),
+            f"it ends behind {instruction.stages}",
         )
         for lane in list(instruction.lanes):
             instruction.end_stage(lane, self.now())

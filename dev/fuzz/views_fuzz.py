@@ -32,7 +32,7 @@ from model.images import Image, read_image
 from model.instructions import Ins, decode
 from model.setups import READ_ONLY, SMALL, THREADS, read_setup
 
-VIEW = TOP / 'crates/flexpret_view/out/flexpret_view'
+VIEW = TOP / "crates/flexpret_view/out/flexpret_view"
 
 EACH_FST = 20
 """One setup in so many has a dump that GTKWave's vcd2fst reads."""
@@ -48,8 +48,14 @@ class BusyWorld(DrawnWorld):
     def _piece(self, at: int) -> list[Ins]:
         chance, register = self.chance, self._register()
         others = [
-            [addi(register, register, chance.randrange(-2048, 2048)), store('Sw', PORT_BASE, register, 0)],
-            [load('Lw', register, PORT_BASE, 0), store('Sw', PORT_BASE, register, 0)], self._wait(), self._time(), self._near(),
+            [
+                addi(register, register, chance.randrange(-2048, 2048)),
+                store("Sw", PORT_BASE, register, 0),
+            ],
+            [load("Lw", register, PORT_BASE, 0), store("Sw", PORT_BASE, register, 0)],
+            self._wait(),
+            self._time(),
+            self._near(),
         ]
         return chance.choice(others) if chance.random() < 0.6 else super()._piece(at)
 
@@ -61,8 +67,8 @@ class WildWorld(DrawnWorld):
         return Image([(at, self._turned(data)) for at, data in super()._image().segments])
 
     def _turned(self, data: bytes) -> bytes:
-        words = [int.from_bytes(data[k:k + 4], 'little') for k in range(0, len(data), 4)]
-        return b''.join(self._wild(word).to_bytes(4, 'little') for word in words)
+        words = [int.from_bytes(data[k : k + 4], "little") for k in range(0, len(data), 4)]
+        return b"".join(self._wild(word).to_bytes(4, "little") for word in words)
 
     def _wild(self, word: int) -> int:
         """Mostly with other registers and numbers, at times with any bits."""
@@ -76,6 +82,7 @@ KINDS: list[type[DrawnWorld]] = [DrawnWorld, BusyWorld, WildWorld]
 
 # ---------------------------------------------------------------- the programs
 
+
 class Programs:
     """Calls the view and the proved program over the setup of a folder."""
 
@@ -84,135 +91,180 @@ class Programs:
 
     def call(self, program: Path, words: Sequence[str]) -> bytes:
         ended = subprocess.run([program, *words], cwd=self.folder, capture_output=True, timeout=60)
-        if (ended.returncode, ended.stderr) != (0, b''):
-            raise ValueError(f'{" ".join(words)}: status {ended.returncode}, {(ended.stdout + ended.stderr)[:80]!r}')
+        if (ended.returncode, ended.stderr) != (0, b""):
+            raise ValueError(
+                f'{" ".join(words)}: status {ended.returncode}, {(ended.stdout + ended.stderr)[:80]!r}'
+            )
         return ended.stdout
 
     def turns(self, window: Window, form: str) -> str:
-        option = [] if form == 'text' else [f'--{form}', '-']
-        return self.call(self.view, ['turns', 'a.toml', '--from', str(window.first), '--to', str(window.end), *option]).decode()
+        option = [] if form == "text" else [f"--{form}", "-"]
+        return self.call(
+            self.view,
+            ["turns", "a.toml", "--from", str(window.first), "--to", str(window.end), *option],
+        ).decode()
 
     def lines(self, name: str, cycles: int, *words: str) -> list[str]:
-        return self.call(self.command, [name, 'a.toml', '--cycles', str(cycles), *words]).decode().splitlines()
+        return (
+            self.call(self.command, [name, "a.toml", "--cycles", str(cycles), *words])
+            .decode()
+            .splitlines()
+        )
 
     def assemble(self, source: str) -> bytes:
-        (self.folder / 'a.s').write_text(source)
-        return self.call(self.command, ['asm', 'a.s'])
+        (self.folder / "a.s").write_text(source)
+        return self.call(self.command, ["asm", "a.s"])
 
 
 def wrong_runs(programs: Programs, run: Run) -> Wrong:
     """The lines of `run` and `phases` against the turns and settings that the forms were compared with."""
     count = len(run.cycles)
     for thread in range(THREADS):
-        events = [cycle.turn.event for cycle in run.cycles[:max(count - 4, 0)] if cycle.turn.thread == thread]
+        events = [
+            cycle.turn.event
+            for cycle in run.cycles[: max(count - 4, 0)]
+            if cycle.turn.thread == thread
+        ]
         wanted = [event.line().decode()[:-1] for event in events if event]
-        yield from differs('run', programs.lines('run', count, '--thread', str(thread)), wanted)
-    phases = [(int(line[:10]), line[11:]) for line in programs.lines('phases', count)]
-    for cycle in run.cycles[:max(count - 1, 0)]:
+        yield from differs("run", programs.lines("run", count, "--thread", str(thread)), wanted)
+    phases = [(int(line[:10]), line[11:]) for line in programs.lines("phases", count)]
+    for cycle in run.cycles[: max(count - 1, 0)]:
         setting = next(setting for at, setting in reversed(phases) if at <= cycle.number)
-        yield from differs('phases', setting, f'{cycle.slots:08x} {cycle.modes:08x}')
+        yield from differs("phases", setting, f"{cycle.slots:08x} {cycle.modes:08x}")
 
 
 def stage_line(cycles: Sequence[Cycle], number: int) -> str:
     """A turn as a dump has it."""
     if number < 0 or cycles[number].thread() is None:
-        return '-'
+        return "-"
     turn = cycles[number].turn
-    return f'T{turn.thread} flushed' if cycles[number].is_flushed() else f'T{turn.thread} {turn.pc:08x} {turn.word:08x}'
+    return (
+        f"T{turn.thread} flushed"
+        if cycles[number].is_flushed()
+        else f"T{turn.thread} {turn.pc:08x} {turn.word:08x}"
+    )
 
 
 def wrong_dump(programs: Programs, run: Run, number: int) -> Wrong:
     """A dump at the start of a cycle: the turns before it, and the state."""
-    fields = dict(line.split(' ', 1) for line in programs.lines('dump', number) if line[0] not in 'T[')
+    fields = dict(
+        line.split(" ", 1) for line in programs.lines("dump", number) if line[0] not in "T["
+    )
     stages = [stage_line(run.cycles, number - k) for k in range(1, 6)]
     stages[0] = stages[0][:2]
-    yield from differs('dump stages', [fields[name] for name in STAGES], [stage.strip() for stage in stages])
+    yield from differs(
+        "dump stages", [fields[name] for name in STAGES], [stage.strip() for stage in stages]
+    )
     cycle = run.cycles[number]
-    yield from differs('dump settings', (fields['slots'], fields['modes']), (f'{cycle.slots:08x}', f'{cycle.modes:08x}'))
-    words = [line.split() for line in programs.lines('dump', number) if line[0] == 'T']
-    armed = {line[0]: (line[2], int(line[4], 16)) for line in words if line[1] == 'armed'}
-    latches = {line[0]: line[2] for line in words if line[1] == 'latch'}
+    yield from differs(
+        "dump settings",
+        (fields["slots"], fields["modes"]),
+        (f"{cycle.slots:08x}", f"{cycle.modes:08x}"),
+    )
+    words = [line.split() for line in programs.lines("dump", number) if line[0] == "T"]
+    armed = {line[0]: (line[2], int(line[4], 16)) for line in words if line[1] == "armed"}
+    latches = {line[0]: line[2] for line in words if line[1] == "latch"}
     for k, state in enumerate(cycle.threads):
-        moment, sleep = armed[f'T{k}']
+        moment, sleep = armed[f"T{k}"]
         asleep = cycle.modes >> 2 * k & 1 == 1 or cycle.time < sleep
-        latch = 'open' if state.latch is None else f'{state.latch:08x}'
-        wanted = ('-' if state.armed is None else f'{state.armed:016x}', state.asleep, latch)
-        yield from differs('dump thread', (moment, asleep, latches[f'T{k}']), wanted)
+        latch = "open" if state.latch is None else f"{state.latch:08x}"
+        wanted = ("-" if state.armed is None else f"{state.armed:016x}", state.asleep, latch)
+        yield from differs("dump thread", (moment, asleep, latches[f"T{k}"]), wanted)
 
 
 def has_text(pc: int, word: int) -> bool:
     """Whether a word has another text than `.word`."""
     found = decode(word)
-    if found.kind == 'Fence':
+    if found.kind == "Fence":
         return word in (0x0FF0000F, 0x0000100F)
-    return found.kind != 'Illegal' and not (found.kind in ('Jal', 'Branch') and (pc + found.imm) % 4)
+    return found.kind != "Illegal" and not (
+        found.kind in ("Jal", "Branch") and (pc + found.imm) % 4
+    )
 
 
 def moved(text: str, distance: int) -> str:
     """The text of an instruction that is placed `distance` bytes lower, with its target as many bytes lower."""
-    name, _, operands = text.partition(' ')
-    if name not in ('jal', 'beq', 'bne', 'blt', 'bge', 'bltu', 'bgeu'):
+    name, _, operands = text.partition(" ")
+    if name not in ("jal", "beq", "bne", "blt", "bge", "bltu", "bgeu"):
         return text
-    front, _, target = operands.rpartition(' ')
-    return f'{name} {front} 0x{(int(target, 16) - distance) % (1 << 32):08x}'
+    front, _, target = operands.rpartition(" ")
+    return f"{name} {front} 0x{(int(target, 16) - distance) % (1 << 32):08x}"
 
 
 def sources(texts: Texts) -> Iterator[tuple[str, dict[int, int]]]:
     """Sources that have all texts, each at its address modulo the scratchpad's size, and the words that they have to give."""
     left = sorted(((pc % SMALL, pc, word), text) for (pc, word), text in texts.of.items())
     while left:
-        lines, words, others, at = list[str](), dict[int, int](), list[tuple[tuple[int, int, int], str]](), 0
+        lines, words, others, at = (
+            list[str](),
+            dict[int, int](),
+            list[tuple[tuple[int, int, int], str]](),
+            0,
+        )
         for (place, pc, word), text in left:
             if place in words:
                 others.append(((place, pc, word), text))
                 continue
-            lines += [f'.space {place - at}', moved(text, pc - place)]
+            lines += [f".space {place - at}", moved(text, pc - place)]
             words[place], at = word, place + 4
-        yield '\n'.join(lines), words
+        yield "\n".join(lines), words
         left = others
 
 
 def wrong_texts(programs: Programs, texts: Texts) -> Wrong:
     for (pc, word), text in texts.of.items():
-        yield from differs('text of a word', (f'{pc:08x}', f'{word:08x}', text, text.startswith('.word')),
-                           (f'{pc:08x}', f'{word:08x}', text, not has_text(pc, word)))
+        yield from differs(
+            "text of a word",
+            (f"{pc:08x}", f"{word:08x}", text, text.startswith(".word")),
+            (f"{pc:08x}", f"{word:08x}", text, not has_text(pc, word)),
+        )
     for source, words in sources(texts):
         for given in (programs.assemble(source), assemble(source.encode()).written()):
             image = read_image(given, SMALL)
             for place, word in words.items():
-                yield from differs('assembled', (place, f'{image.word(place):08x}'), (place, f'{word:08x}'))
+                yield from differs(
+                    "assembled", (place, f"{image.word(place):08x}"), (place, f"{word:08x}")
+                )
 
 
 def fst_values(programs: Programs, text: str) -> str:
     """A dump after a conversion by GTKWave's tools and back."""
-    (programs.folder / 'a.vcd').write_text(text)
-    subprocess.run(['vcd2fst', 'a.vcd', 'a.fst'], cwd=programs.folder, check=True, capture_output=True)
-    return subprocess.run(['fst2vcd', 'a.fst'], cwd=programs.folder, check=True, capture_output=True, text=True).stdout
+    (programs.folder / "a.vcd").write_text(text)
+    subprocess.run(
+        ["vcd2fst", "a.vcd", "a.fst"], cwd=programs.folder, check=True, capture_output=True
+    )
+    return subprocess.run(
+        ["fst2vcd", "a.fst"], cwd=programs.folder, check=True, capture_output=True, text=True
+    ).stdout
 
 
 def wrong_fst(programs: Programs, text: str) -> Wrong:
     """The dump that vcd2fst read against the dump as it was."""
     own, other = Dump(text), Dump(fst_values(programs, text))
-    yield from differs('fst times', sorted({time for time, _ in other.times} - {time for time, _ in own.times}), [])
+    yield from differs(
+        "fst times", sorted({time for time, _ in other.times} - {time for time, _ in own.times}), []
+    )
     seen = dict(other.times)
     values: dict[str, str] = {}
     for time, wanted in own.times:
         values = seen.get(time, values)
         wanted_padded = {name: padded(name, value) for name, value in wanted.items()}
         found = {name: padded(name, value) for name, value in values.items() if name in wanted}
-        yield from differs('fst values', found, wanted_padded)
+        yield from differs("fst values", found, wanted_padded)
 
 
 def padded(name: str, value: str) -> str:
     """A value without the digits that a width adds."""
-    return value if name.endswith(('slot', 'instruction')) else value.lstrip('0z') or value[-1]
+    return value if name.endswith(("slot", "instruction")) else value.lstrip("0z") or value[-1]
 
 
 # ---------------------------------------------------------------- setups and windows
 
+
 @dataclass
 class Tally:
     """The counts of comparisons, and the differences."""
+
     compared: Counter[str] = field(default_factory=Counter)
     different: Counter[str] = field(default_factory=Counter)
     first: dict[str, str] = field(default_factory=dict)
@@ -220,28 +272,32 @@ class Tally:
     def take(self, found: Wrong, where: str) -> None:
         for kind, how in found:
             self.different[kind] += 1
-            self.first.setdefault(kind, f'{where}: {how}')
+            self.first.setdefault(kind, f"{where}: {how}")
 
 
-def windows(chance: random.Random, cycles: Sequence[Cycle], period: int) -> Iterator[tuple[str, Window]]:
+def windows(
+    chance: random.Random, cycles: Sequence[Cycle], period: int
+) -> Iterator[tuple[str, Window]]:
     """All cycles as text, and of each form a window from cycle 0 on, one somewhere, and one of a single cycle or a few."""
     end = len(cycles)
-    yield 'text', Window(cycles, 0, end, period)
+    yield "text", Window(cycles, 0, end, period)
     for form in FORMS:
         first = chance.randrange(end)
         few = chance.randrange(end)
         yield form, Window(cycles, 0, chance.randrange(1, end + 1), period)
         yield form, Window(cycles, first, chance.randrange(first + 1, end + 1), period)
-        yield form, Window(cycles, few, min(end, few + chance.choice([1, 1, 2, 3, 4, 5, 6, 9])), period)
+        yield form, Window(
+            cycles, few, min(end, few + chance.choice([1, 1, 2, 3, 4, 5, 6, 9])), period
+        )
 
 
 def kind_of(cycle: Cycle) -> str:
     """The kind by which a cycle is counted."""
     if cycle.thread() is None:
-        return 'idle'
-    kind = 'flushed' if cycle.is_flushed() else cycle.outcome().split()[0]
-    kind = kind if kind in ('flushed', 'held', 'trap', 'wait') else 'other'
-    return f'{kind} donated' if cycle.is_donated() else kind
+        return "idle"
+    kind = "flushed" if cycle.is_flushed() else cycle.outcome().split()[0]
+    kind = kind if kind in ("flushed", "held", "trap", "wait") else "other"
+    return f"{kind} donated" if cycle.is_donated() else kind
 
 
 class Fuzz:
@@ -252,10 +308,10 @@ class Fuzz:
         self.tally = Tally()
 
     def try_setup(self, number: int) -> None:
-        chance = random.Random(f'{self.seed}:{number}')
+        chance = random.Random(f"{self.seed}:{number}")
         drawn = KINDS[number % len(KINDS)](chance.getrandbits(48))
-        (self.programs.folder / 'a.toml').write_bytes(drawn.setup)
-        (self.programs.folder / 'a.fpx').write_bytes(drawn.image)
+        (self.programs.folder / "a.toml").write_bytes(drawn.setup)
+        (self.programs.folder / "a.fpx").write_bytes(drawn.image)
         setup = read_setup(drawn.setup)
         count = max(drawn.cycles, chance.choice([0, 100, 300, 600])) + chance.randrange(1, 40)
         run = Run(setup, read_image(drawn.image, setup.size), count)
@@ -263,59 +319,82 @@ class Fuzz:
         self.count(setups=1, cycles=len(run.cycles))
         self.count(**Counter(kind_of(cycle) for cycle in run.cycles))
         for index, (form, window) in enumerate(windows(chance, run.cycles, setup.period)):
-            self.try_window(f'setup {number}', form, window, texts, index == 4 and number % EACH_FST == 0)
+            self.try_window(
+                f"setup {number}", form, window, texts, index == 4 and number % EACH_FST == 0
+            )
         self.count(runs=THREADS)
-        self.tally.take(wrong_runs(self.programs, run), f'setup {number}')
+        self.tally.take(wrong_runs(self.programs, run), f"setup {number}")
         for _ in range(4):
             at = chance.randrange(len(run.cycles))
             self.count(dumps=1)
-            self.tally.take(wrong_dump(self.programs, run, at), f'setup {number}, dump {at}')
+            self.tally.take(wrong_dump(self.programs, run, at), f"setup {number}, dump {at}")
         self.count(texts=len(texts.of))
-        self.tally.take(wrong_texts(self.programs, texts), f'setup {number}')
+        self.tally.take(wrong_texts(self.programs, texts), f"setup {number}")
 
-    def try_window(self, where: str, form: str, window: Window, texts: Texts, with_fst: bool) -> None:
-        where = f'{where}, {form} from {window.first} to {window.end}'
+    def try_window(
+        self, where: str, form: str, window: Window, texts: Texts, with_fst: bool
+    ) -> None:
+        where = f"{where}, {form} from {window.first} to {window.end}"
         try:
             shown = self.programs.turns(window, form)
             self.tally.take(FORMS[form](shown, window, texts), where)
-            if form == 'vcd' and with_fst and self.with_fst:
+            if form == "vcd" and with_fst and self.with_fst:
                 self.count(fst=1)
                 self.tally.take(wrong_fst(self.programs, shown), where)
-        except (ValueError, KeyError, IndexError, StopIteration, RuntimeError, ElementTree.ParseError) as error:
-            self.tally.take(iter([(f'{form} is no {form}', repr(error))]), where)
-        self.count(**{form: 1, f'{form} cycles': len(window)})
+        except (
+            ValueError,
+            KeyError,
+            IndexError,
+            StopIteration,
+            RuntimeError,
+            ElementTree.ParseError,
+        ) as error:
+            self.tally.take(iter([(f"{form} is no {form}", repr(error))]), where)
+        self.count(**{form: 1, f"{form} cycles": len(window)})
 
     def count(self, **counts: int) -> None:
         self.tally.compared.update(counts)
 
 
 def options() -> argparse.Namespace:
-    parser = argparse.ArgumentParser(description=__doc__, formatter_class=argparse.RawDescriptionHelpFormatter)
-    parser.add_argument('--seed', type=int, default=1, help='what is drawn')
-    parser.add_argument('--first', type=int, default=0, help='the number of the first setup')
-    parser.add_argument('--count', type=int, default=200, help='how many setups; an interrupt ends it before')
-    parser.add_argument('--only', type=int, help='one setup alone, whose files are left in the folder of --keep')
-    parser.add_argument('--keep', type=Path, help='the folder for the files of the setup; else one that goes')
-    parser.add_argument('--view', default=str(VIEW), help='the view')
-    parser.add_argument('--program', help='the proved program')
+    parser = argparse.ArgumentParser(
+        description=__doc__, formatter_class=argparse.RawDescriptionHelpFormatter
+    )
+    parser.add_argument("--seed", type=int, default=1, help="what is drawn")
+    parser.add_argument("--first", type=int, default=0, help="the number of the first setup")
+    parser.add_argument(
+        "--count", type=int, default=200, help="how many setups; an interrupt ends it before"
+    )
+    parser.add_argument(
+        "--only", type=int, help="one setup alone, whose files are left in the folder of --keep"
+    )
+    parser.add_argument(
+        "--keep", type=Path, help="the folder for the files of the setup; else one that goes"
+    )
+    parser.add_argument("--view", default=str(VIEW), help="the view")
+    parser.add_argument("--program", help="the proved program")
     return parser.parse_args()
 
 
 def main() -> int:
     asked = options()
-    numbers = [asked.only] if asked.only is not None else range(asked.first, asked.first + asked.count)
+    numbers = (
+        [asked.only] if asked.only is not None else range(asked.first, asked.first + asked.count)
+    )
     with tempfile.TemporaryDirectory() as room:
         folder = asked.keep or Path(room)
         programs = Programs(built_program(asked.view), built_program(asked.program), folder)
-        fuzz = Fuzz(asked.seed, programs, all(shutil.which(name) for name in ('vcd2fst', 'fst2vcd')))
+        fuzz = Fuzz(
+            asked.seed, programs, all(shutil.which(name) for name in ("vcd2fst", "fst2vcd"))
+        )
         with contextlib.suppress(KeyboardInterrupt):
             for number in numbers:
                 fuzz.try_setup(number)
-    print('compared:', ', '.join(f'{count} {name}' for name, count in fuzz.tally.compared.items()))
+    print("compared:", ", ".join(f"{count} {name}" for name, count in fuzz.tally.compared.items()))
     for kind, count in fuzz.tally.different.most_common():
-        print(f'{kind}: {count} differ; first {fuzz.tally.first[kind]}')
+        print(f"{kind}: {count} differ; first {fuzz.tally.first[kind]}")
     return 1 if fuzz.tally.different else 0
 
 
-if __name__ == '__main__':
+if __name__ == "__main__":
     sys.exit(main())

@@ -21,10 +21,14 @@ FOLDERS = ("tools", "dev", "model", "examples", "rtl", "conftest.py")
 
 def main() -> int:
     parser = argparse.ArgumentParser(description="Formats the Python of the repository by black.")
-    parser.add_argument("--check", action="store_true", help="write nothing; status 1 if a file has another form")
+    parser.add_argument(
+        "--check", action="store_true", help="write nothing; status 1 if a file has another form"
+    )
     options = parser.parse_args()
     try:
-        said = subprocess.run(["black", "--version"], capture_output=True, text=True, check=True).stdout
+        said = subprocess.run(
+            ["black", "--version"], capture_output=True, text=True, check=True
+        ).stdout
     except OSError as fault:
         print(f"format.py: black can't be run: {fault.strerror} (Debian: black)", file=sys.stderr)
         return 2

@@ -22,6 +22,7 @@ SECONDS = 3600
 @dataclass(frozen=True)
 class Row:
     """A command line and the files that it reads, all below a folder with its name."""
+
     name: str
     words: list[str]
     files: dict[str, bytes]
@@ -30,6 +31,7 @@ class Row:
 @dataclass(frozen=True)
 class Answer:
     """A status and the output."""
+
     status: int
     out: bytes
 
@@ -37,6 +39,7 @@ class Answer:
 @dataclass
 class Tally:
     """The results of the refusals of a row."""
+
     tried: int = 0
     refused: int = 0
     own: int = 0
@@ -46,16 +49,19 @@ class Tally:
         self.tried += 1
         if answer == ample:
             self.own += 1
-        elif answer == Answer(Status.NO_MEMORY, b''):
+        elif answer == Answer(Status.NO_MEMORY, b""):
             self.refused += 1
         else:
-            self.wrong.append(f'allocation {number}: status {answer.status}, {len(answer.out)} bytes: {answer.out[:80]!r}')
+            self.wrong.append(
+                f"allocation {number}: status {answer.status}, {len(answer.out)} bytes: {answer.out[:80]!r}"
+            )
 
 
 # ---------------------------------------------------------------- the rows
 
+
 def example_files(*names: str) -> dict[str, bytes]:
-    return {f'examples/{name}': (TOP / 'examples' / name).read_bytes() for name in names}
+    return {f"examples/{name}": (TOP / "examples" / name).read_bytes() for name in names}
 
 
 def case_files(table: str, name: str) -> dict[str, bytes]:
@@ -69,28 +75,46 @@ IMAGE = re.compile(rb'^image = "', re.MULTILINE)
 def row_of(words: list[str], files: dict[str, bytes]) -> Row:
     """A row with its files below a folder with the command's name, also in the names in arguments and setups."""
     name = words[0]
-    placed = {f'{name}/{file}': IMAGE.sub(b'image = "%s/' % name.encode(), content) if file.endswith('.toml') else content
-              for file, content in files.items()}
-    return Row(name, [f'{name}/{word}' if word in files else word for word in words], placed)
+    placed = {
+        f"{name}/{file}": IMAGE.sub(b'image = "%s/' % name.encode(), content)
+        if file.endswith(".toml")
+        else content
+        for file, content in files.items()
+    }
+    return Row(name, [f"{name}/{word}" if word in files else word for word in words], placed)
 
 
 def rows() -> list[Row]:
     """A control loop's trace, a loop's bound, a source, a dump, and a line of each other command."""
-    drive = example_files('drive.toml', 'drive.fpx')
-    of_drive = ['examples/drive.toml', '--thread', '0', '--cycles', '77']
-    section = ['--thread', '0', '--from', '0x8', '--to', '0x18']
+    drive = example_files("drive.toml", "drive.fpx")
+    of_drive = ["examples/drive.toml", "--thread", "0", "--cycles", "77"]
+    section = ["--thread", "0", "--from", "0x8", "--to", "0x18"]
     return [
-        row_of(['run', *of_drive], drive),
-        row_of(['bound', 'a.toml', '--thread', '0', '--from', '0', '--to', '8'], case_files('commands.txt', 'a loop of ten rounds')),
-        row_of(['asm', 'a.s'], case_files('commands.txt', 'sources')),
-        row_of(['dump', 'a.toml', '--cycles', '5'], case_files('worked.txt', 'no cycle and the first retired one')),
-        row_of(['solo', *of_drive], drive),
-        row_of(['check', *of_drive, '--trace', 'examples/drive.trace'], drive | example_files('drive.trace')),
-        row_of(['phases', 'a.toml', '--cycles', '40'], case_files('commands.txt', 'settings of slots and modes')),
-        row_of(['calls', 'examples/calls.toml', *section, '--routines', 'examples/calls.routines'],
-            example_files('calls.toml', 'calls.fpx', 'calls.routines')),
-        row_of(['elf', 'examples/c/pid.elf'], example_files('c/pid.elf')),
-        row_of(['selfrun', '1'], {}),
+        row_of(["run", *of_drive], drive),
+        row_of(
+            ["bound", "a.toml", "--thread", "0", "--from", "0", "--to", "8"],
+            case_files("commands.txt", "a loop of ten rounds"),
+        ),
+        row_of(["asm", "a.s"], case_files("commands.txt", "sources")),
+        row_of(
+            ["dump", "a.toml", "--cycles", "5"],
+            case_files("worked.txt", "no cycle and the first retired one"),
+        ),
+        row_of(["solo", *of_drive], drive),
+        row_of(
+            ["check", *of_drive, "--trace", "examples/drive.trace"],
+            drive | example_files("drive.trace"),
+        ),
+        row_of(
+            ["phases", "a.toml", "--cycles", "40"],
+            case_files("commands.txt", "settings of slots and modes"),
+        ),
+        row_of(
+            ["calls", "examples/calls.toml", *section, "--routines", "examples/calls.routines"],
+            example_files("calls.toml", "calls.fpx", "calls.routines"),
+        ),
+        row_of(["elf", "examples/c/pid.elf"], example_files("c/pid.elf")),
+        row_of(["selfrun", "1"], {}),
     ]
 
 
@@ -102,61 +126,85 @@ def write_files(row: Row, folder: Path) -> None:
 
 # ---------------------------------------------------------------- by rt try
 
-ENDED = re.compile(r'^case=(\S+) run=ended status=(\d+) .*proved=no$', re.MULTILINE)
-WRITTEN = re.compile(rb'^== (\S+)\n', re.MULTILINE)
+ENDED = re.compile(r"^case=(\S+) run=ended status=(\d+) .*proved=no$", re.MULTILINE)
+WRITTEN = re.compile(rb"^== (\S+)\n", re.MULTILINE)
 
 
 class Tried:
     """The program as `rt try` builds and runs it: all rows with one build."""
 
     def __init__(self, some: list[Row], folder: Path) -> None:
-        self.cases = folder / 'cases'
+        self.cases = folder / "cases"
         self.cases.mkdir()
-        self.data = [word for row in some for name in row.files for word in ('--data', f'{name}={folder / name}')]
+        self.data = [
+            word
+            for row in some
+            for name in row.files
+            for word in ("--data", f"{name}={folder / name}")
+        ]
         for row in some:
-            (self.cases / row.name).write_bytes(b'')
-            (self.cases / f'{row.name}.args').write_text(''.join(f'{word}\n' for word in row.words))
+            (self.cases / row.name).write_bytes(b"")
+            (self.cases / f"{row.name}.args").write_text("".join(f"{word}\n" for word in row.words))
 
     def answers(self, number: int) -> dict[str, Answer]:
         """The result of each row with this allocation refused; 0 for none."""
-        fail = ['--fail-alloc', str(number)] if number else []
-        ended = subprocess.run(['rt', 'try', *self.data, *fail, '--cases', self.cases], cwd=TOP / 'crates/flexpret_cli',
-                               stdin=subprocess.DEVNULL, capture_output=True, timeout=SECONDS)
-        said = ended.stderr.decode(errors='replace')
+        fail = ["--fail-alloc", str(number)] if number else []
+        ended = subprocess.run(
+            ["rt", "try", *self.data, *fail, "--cases", self.cases],
+            cwd=TOP / "crates/flexpret_cli",
+            stdin=subprocess.DEVNULL,
+            capture_output=True,
+            timeout=SECONDS,
+        )
+        said = ended.stderr.decode(errors="replace")
         statuses = {name: int(status) for name, status in ENDED.findall(said)}
         parts = WRITTEN.split(ended.stdout)
         written = {name.decode(): out for name, out in zip(parts[1::2], parts[2::2])}
         if not statuses or statuses.keys() != written.keys():
-            sys.exit(f'rt try gave no answer to allocation {number}:\n' + said[-2000:])
+            sys.exit(f"rt try gave no answer to allocation {number}:\n" + said[-2000:])
         return {name: Answer(status, written[name]) for name, status in statuses.items()}
 
 
 def numbers_of(text: str) -> list[int]:
     """The numbers of a list as 1-20,25,30."""
     found: list[int] = []
-    for part in text.split(','):
-        first, _, last = part.partition('-')
+    for part in text.split(","):
+        first, _, last = part.partition("-")
         found += range(int(first), int(last or first) + 1)
     return found
 
 
 # ---------------------------------------------------------------- on the built program
 
+
 class Preloaded:
     """The built program with a library before the C library's allocations."""
 
     def __init__(self, program: Path, folder: Path) -> None:
         self.program, self.folder = program, folder
-        self.library, self.count = folder / 'refuse.so', folder / 'count'
-        subprocess.run(['cc', '-O1', '-shared', '-fPIC', '-o', self.library, TOP / 'dev/gate/refuse.c'], check=True)
+        self.library, self.count = folder / "refuse.so", folder / "count"
+        subprocess.run(
+            ["cc", "-O1", "-shared", "-fPIC", "-o", self.library, TOP / "dev/gate/refuse.c"],
+            check=True,
+        )
 
     def answer(self, row: Row, number: int) -> Answer:
         """The result of a row with this allocation refused; 0 for none. Standard error must have the line of the status."""
-        env = {'LD_PRELOAD': str(self.library), 'REFUSE': str(number), 'REFUSE_COUNT': str(self.count)}
-        ended = subprocess.run([self.program, *row.words], cwd=self.folder, env=env, stdin=subprocess.DEVNULL, capture_output=True,
-                               timeout=SECONDS)
+        env = {
+            "LD_PRELOAD": str(self.library),
+            "REFUSE": str(number),
+            "REFUSE_COUNT": str(self.count),
+        }
+        ended = subprocess.run(
+            [self.program, *row.words],
+            cwd=self.folder,
+            env=env,
+            stdin=subprocess.DEVNULL,
+            capture_output=True,
+            timeout=SECONDS,
+        )
         if ended.stderr != complaint(ended.returncode):
-            return Answer(ended.returncode, b'standard error: ' + ended.stderr)
+            return Answer(ended.returncode, b"standard error: " + ended.stderr)
         return Answer(ended.returncode, ended.stdout)
 
     def asked(self) -> int:
@@ -165,6 +213,7 @@ class Preloaded:
 
 
 # ---------------------------------------------------------------- the whole
+
 
 def refuse_every(program: Path, some: list[Row], folder: Path) -> Iterator[tuple[Row, Tally]]:
     """Refuses every allocation of a row, on the built program."""
@@ -189,26 +238,41 @@ def refuse_some(numbers: list[int], some: list[Row], folder: Path) -> Iterator[t
 
 def main() -> int:
     parser = argparse.ArgumentParser(description=__doc__)
-    parser.add_argument('--numbers', default='1-8', help='which allocations rt try refuses, as 1-20,25,30 (left out: 1-8)')
-    parser.add_argument('--row', action='append', metavar='COMMAND', help='a row alone, may be repeated')
-    parser.add_argument('--built', action='store_true', help='refuse every allocation on the built program')
-    parser.add_argument('--program', help='the built program (left out: the one that ./flexpret and rt ci leave)')
+    parser.add_argument(
+        "--numbers",
+        default="1-8",
+        help="which allocations rt try refuses, as 1-20,25,30 (left out: 1-8)",
+    )
+    parser.add_argument(
+        "--row", action="append", metavar="COMMAND", help="a row alone, may be repeated"
+    )
+    parser.add_argument(
+        "--built", action="store_true", help="refuse every allocation on the built program"
+    )
+    parser.add_argument(
+        "--program", help="the built program (left out: the one that ./flexpret and rt ci leave)"
+    )
     options = parser.parse_args()
     some = [row for row in rows() if not options.row or row.name in options.row]
     wrong = 0
-    with tempfile.TemporaryDirectory(prefix='refused-') as name:
+    with tempfile.TemporaryDirectory(prefix="refused-") as name:
         folder = Path(name)
         for row in some:
             write_files(row, folder)
-        every = refuse_every(built_program(options.program), some, folder) if options.built else None
+        every = (
+            refuse_every(built_program(options.program), some, folder) if options.built else None
+        )
         print(f'{"":8}{"refusals":>10}{"status 9":>10}{"own answer":>12}{"else":>6}')
         for row, tally in every or refuse_some(numbers_of(options.numbers), some, folder):
-            print(f'{row.name:8}{tally.tried:10}{tally.refused:10}{tally.own:12}{len(tally.wrong):6}', flush=True)
+            print(
+                f"{row.name:8}{tally.tried:10}{tally.refused:10}{tally.own:12}{len(tally.wrong):6}",
+                flush=True,
+            )
             for line in tally.wrong:
-                print(f'  {line}')
+                print(f"  {line}")
             wrong += len(tally.wrong)
     return 1 if wrong else 0
 
 
-if __name__ == '__main__':
+if __name__ == "__main__":
     sys.exit(main())

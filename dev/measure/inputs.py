@@ -3,14 +3,14 @@ import struct
 from collections.abc import Sequence
 from dataclasses import dataclass
 
-NOP, COUNT, RETURN = 0x13, 0xfff28293, 0x8067
+NOP, COUNT, RETURN = 0x13, 0xFFF28293, 0x8067
 """`addi x0, x0, 0`, `addi x5, x5, -1`, `jalr x0, 0(x1)`."""
 
 MOST = 1_048_576
 """The largest bound of a loop."""
 
-READ_ONLY = ', '.join(['"readonly"'] * 8)
-SETUP = f'''version = 2
+READ_ONLY = ", ".join(['"readonly"'] * 8)
+SETUP = f"""version = 2
 period = 10
 image = "a.fpx"
 slots = [{', '.join(['"T0"'] * 8)}]
@@ -20,7 +20,7 @@ d_regions = [{READ_ONLY}]
 id = 0
 mode = "hard"
 entry = 0
-'''
+"""
 """A thread that has all eight slots."""
 
 Loop = tuple[int, int]
@@ -30,31 +30,51 @@ Loop = tuple[int, int]
 @dataclass(frozen=True)
 class Section:
     """Code at 0 with its loops, and the size of its section in bytes."""
+
     words: Sequence[int]
     loops: Sequence[Loop]
     to: int
     routines: Sequence[Loop] = ()
 
     def setup(self) -> str:
-        return SETUP + ''.join(f'[[loop]]\nhead = {head}\nlast = {last}\nbound = {MOST}\n' for head, last in self.loops)
+        return SETUP + "".join(
+            f"[[loop]]\nhead = {head}\nlast = {last}\nbound = {MOST}\n" for head, last in self.loops
+        )
 
     def image(self) -> bytes:
-        return struct.pack(f'<4sIII{len(self.words)}I', b'FPX1', 1, 0, 4 * len(self.words), *self.words)
+        return struct.pack(
+            f"<4sIII{len(self.words)}I", b"FPX1", 1, 0, 4 * len(self.words), *self.words
+        )
 
     def listing(self) -> str:
-        return ''.join(f'{first:08x} {last:08x}\n' for first, last in self.routines)
+        return "".join(f"{first:08x} {last:08x}\n" for first, last in self.routines)
 
 
 def branch(offset: int) -> int:
     """`bne x5, x0, OFFSET`."""
-    o = offset & 0x1fff
-    return (o >> 12 & 1) << 31 | (o >> 5 & 63) << 25 | 5 << 15 | 1 << 12 | (o >> 1 & 15) << 8 | (o >> 11 & 1) << 7 | 0x63
+    o = offset & 0x1FFF
+    return (
+        (o >> 12 & 1) << 31
+        | (o >> 5 & 63) << 25
+        | 5 << 15
+        | 1 << 12
+        | (o >> 1 & 15) << 8
+        | (o >> 11 & 1) << 7
+        | 0x63
+    )
 
 
 def call(offset: int) -> int:
     """`jal x1, OFFSET`."""
-    o = offset & 0x1fffff
-    return (o >> 20) << 31 | (o >> 1 & 0x3ff) << 21 | (o >> 11 & 1) << 20 | (o >> 12 & 0xff) << 12 | 1 << 7 | 0x6f
+    o = offset & 0x1FFFFF
+    return (
+        (o >> 20) << 31
+        | (o >> 1 & 0x3FF) << 21
+        | (o >> 11 & 1) << 20
+        | (o >> 12 & 0xFF) << 12
+        | 1 << 7
+        | 0x6F
+    )
 
 
 def short_loops() -> Section:
@@ -98,12 +118,12 @@ def many_calls() -> Section:
 def executable() -> bytes:
     """An ELF file whose 65,535 program headers load a byte each, one after the other."""
     count = 65_535
-    ident = b'\x7fELF' + bytes([1, 1, 1]) + bytes(9)
-    header = struct.pack('<16sHHIIIIIHHHHHH', ident, 2, 243, 1, 0, 52, 0, 0, 52, 32, count, 0, 0, 0)
-    loads = b''.join(struct.pack('<8I', 1, 0, k, k, 1, 1, 5, 1) for k in range(count))
+    ident = b"\x7fELF" + bytes([1, 1, 1]) + bytes(9)
+    header = struct.pack("<16sHHIIIIIHHHHHH", ident, 2, 243, 1, 0, 52, 0, 0, 52, 32, count, 0, 0, 0)
+    loads = b"".join(struct.pack("<8I", 1, 0, k, k, 1, 1, 5, 1) for k in range(count))
     return header + loads
 
 
 def labels() -> str:
     """A source of 100,000 labels."""
-    return ''.join(f'a{k}:\n' for k in range(100_000))
+    return "".join(f"a{k}:\n" for k in range(100_000))

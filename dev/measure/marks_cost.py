@@ -20,7 +20,7 @@ from pathlib import Path
 from fptools.testing.layout_check import Executable
 from fptools.testing.layout_shapes import BATCHES, Way, build, quick_runner, shapes
 
-LEVELS = ('O0', 'Og', 'O1', 'O2', 'O3', 'Os')
+LEVELS = ("O0", "Og", "O1", "O2", "O3", "Os")
 MOST_RATIO = 1.03
 VISITS = 1000
 NOP = 0x13
@@ -53,11 +53,11 @@ class Cost:
         sums = [sum(self.bounds[name][k] for name in self.ratios) for k in (0, 1)]
         more = sorted(name for name, it in self.ratios.items() if it > 1)
         worst = max(self.ratios, key=lambda name: self.ratios[name])
-        what = f'worst {worst} {self.ratios[worst]:.2f}'
-        compiler = 'clang' if self.way.is_clang else 'gcc'
+        what = f"worst {worst} {self.ratios[worst]:.2f}"
+        compiler = "clang" if self.way.is_clang else "gcc"
         return (
-            f'| {compiler} {self.way.level} | {len(self.ratios)} | {sums[0]} | {sums[1]} '
-            f'| {self.mean:.3f} | {self.arithmetic:.3f} | {len(more)} | {what} | {self.nops} |'
+            f"| {compiler} {self.way.level} | {len(self.ratios)} | {sums[0]} | {sums[1]} "
+            f"| {self.mean:.3f} | {self.arithmetic:.3f} | {len(more)} | {what} | {self.nops} |"
         )
 
 
@@ -67,8 +67,8 @@ def cost_of(folder: Path, way: Way) -> Cost:
     for is_marked in (False, True):
         for number, names in enumerate(BATCHES):
             own = replace(way, is_marked=is_marked)
-            executable = build(folder / f'{number}{is_marked}', own, names)
-            image = executable.with_suffix('.image')
+            executable = build(folder / f"{number}{is_marked}", own, names)
+            image = executable.with_suffix(".image")
             image.write_bytes(Executable(executable).flat)
             for name, shape in shapes(executable, names).items():
                 if shape.faults or shape.refusal():
@@ -87,25 +87,27 @@ def main() -> int:
     parser = argparse.ArgumentParser(
         description=__doc__, formatter_class=argparse.RawDescriptionHelpFormatter
     )
-    parser.add_argument('levels', nargs='*', default=LEVELS, metavar='LEVEL')
-    parser.add_argument('--clang', action='store_true', help='also with clang')
-    parser.add_argument('--more', action='append', default=[], metavar='OPTION', help='of the compiler')
+    parser.add_argument("levels", nargs="*", default=LEVELS, metavar="LEVEL")
+    parser.add_argument("--clang", action="store_true", help="also with clang")
+    parser.add_argument(
+        "--more", action="append", default=[], metavar="OPTION", help="of the compiler"
+    )
     asked, status = parser.parse_args(), 0
-    print('| | shapes | without | with | geometric | arithmetic | larger | | `nop`s |')
-    print('|---|---|---|---|---|---|---|---|---|')
+    print("| | shapes | without | with | geometric | arithmetic | larger | | `nop`s |")
+    print("|---|---|---|---|---|---|---|---|---|")
     for is_clang in (False, True) if asked.clang else (False,):
         for level in asked.levels:
-            if is_clang and level == 'Og':
+            if is_clang and level == "Og":
                 continue
             with tempfile.TemporaryDirectory() as folder:
-                way = Way(f'-{level}', False, is_clang=is_clang, more=tuple(asked.more))
+                way = Way(f"-{level}", False, is_clang=is_clang, more=tuple(asked.more))
                 cost = cost_of(Path(folder), way)
             print(cost.row(), flush=True)
-            if level == 'O2' and not is_clang and cost.mean > MOST_RATIO:
-                print(f'{cost.mean:.3f} is above {MOST_RATIO}', file=sys.stderr)
+            if level == "O2" and not is_clang and cost.mean > MOST_RATIO:
+                print(f"{cost.mean:.3f} is above {MOST_RATIO}", file=sys.stderr)
                 status = 1
     return status
 
 
-if __name__ == '__main__':
+if __name__ == "__main__":
     sys.exit(main())

@@ -13,6 +13,7 @@ from dev.crates.source import Source
 @dataclass(frozen=True)
 class Drawn:
     """A change of a file, its number, and the line at which it begins."""
+
     number: int
     crate: str
     file: str
@@ -25,13 +26,20 @@ class Drawn:
 
     def diff(self) -> str:
         """The change as a diff of its file."""
-        rows = difflib.unified_diff(self.text.splitlines(True), self.change.applied(self.text).splitlines(True), self.file, self.file, n=2)
-        return ''.join(rows)
+        rows = difflib.unified_diff(
+            self.text.splitlines(True),
+            self.change.applied(self.text).splitlines(True),
+            self.file,
+            self.file,
+            n=2,
+        )
+        return "".join(rows)
 
 
 @dataclass
 class Urn:
     """The lines of bodies of some crates, with the changes that begin at each."""
+
     lines: list[tuple[str, str, int]] = field(default_factory=list)
     changes: dict[tuple[str, str, int], dict[str, list[Change]]] = field(default_factory=dict)
     texts: dict[str, str] = field(default_factory=dict)
@@ -66,12 +74,14 @@ class Urn:
 
 
 def library_crates() -> list[str]:
-    return sorted(folder.name for folder in (TOP / 'crates').iterdir() if (folder / 'src/lib.rt').is_file())
+    return sorted(
+        folder.name for folder in (TOP / "crates").iterdir() if (folder / "src/lib.rt").is_file()
+    )
 
 
 def urn_of(crates: list[str]) -> Urn:
     urn = Urn()
     for crate in crates:
-        for file in sorted((TOP / 'crates' / crate / 'src').glob('**/*.rt')):
+        for file in sorted((TOP / "crates" / crate / "src").glob("**/*.rt")):
             urn.add(crate, file)
     return urn

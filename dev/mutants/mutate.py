@@ -24,9 +24,11 @@ from dev.mutants.rounds import Outcome, Rounds
 
 # ---------------------------------------------------------------- the log
 
+
 @dataclass
 class Tried:
     """A line of the log."""
+
     number: int
     crate: str
     file: str
@@ -44,8 +46,20 @@ class Tried:
 
 def tried_of(outcome: Outcome) -> Tried:
     drawn = outcome.drawn
-    return Tried(drawn.number, drawn.crate, drawn.file, drawn.line, drawn.change.function, drawn.change.kind, outcome.verdict,
-                 outcome.said, outcome.removed, outcome.seconds, drawn.diff(), outcome.beside)
+    return Tried(
+        drawn.number,
+        drawn.crate,
+        drawn.file,
+        drawn.line,
+        drawn.change.function,
+        drawn.change.kind,
+        outcome.verdict,
+        outcome.said,
+        outcome.removed,
+        outcome.seconds,
+        drawn.diff(),
+        outcome.beside,
+    )
 
 
 class Log:
@@ -55,15 +69,17 @@ class Log:
         self.path = path
         self.tried: dict[int, Tried] = {}
         self.lock = Lock()
-        digest = hashlib.sha256(''.join(urn.texts[name] for name in sorted(urn.texts)).encode()).hexdigest()
-        self.front = {'seed': seed, 'files': len(urn.texts), 'sources': digest}
+        digest = hashlib.sha256(
+            "".join(urn.texts[name] for name in sorted(urn.texts)).encode()
+        ).hexdigest()
+        self.front = {"seed": seed, "files": len(urn.texts), "sources": digest}
         if path and path.exists():
             front, *rows = map(json.loads, path.read_text().splitlines())
             if front != self.front:
-                sys.exit(f'{path} is of another seed, other crates or other sources')
-            self.tried = {row['number']: Tried(**row) for row in rows}
+                sys.exit(f"{path} is of another seed, other crates or other sources")
+            self.tried = {row["number"]: Tried(**row) for row in rows}
         elif path:
-            path.write_text(json.dumps(self.front) + '\n')
+            path.write_text(json.dumps(self.front) + "\n")
 
     def has(self, number: int) -> bool:
         """Whether the verdict on a change is in the log."""
@@ -74,16 +90,22 @@ class Log:
         with self.lock:
             self.tried[tried.number] = tried
             if self.path:
-                with self.path.open('a') as file:
-                    file.write(json.dumps(asdict(tried)) + '\n')
-            beside = f' beside {tried.beside}' if tried.beside else ''
-            print(f'{tried.number}: {tried.verdict}{beside} in {tried.seconds} s: {tried.kind} in {tried.function}, '
-                  f'{tried.file}:{tried.line}: {tried.said[:120]}', flush=True)
+                with self.path.open("a") as file:
+                    file.write(json.dumps(asdict(tried)) + "\n")
+            beside = f" beside {tried.beside}" if tried.beside else ""
+            print(
+                f"{tried.number}: {tried.verdict}{beside} in {tried.seconds} s: {tried.kind} in {tried.function}, "
+                f"{tried.file}:{tried.line}: {tried.said[:120]}",
+                flush=True,
+            )
 
 
 # ---------------------------------------------------------------- the whole
 
-def outcomes(crate: str, todo: list[Drawn], bench: Bench, options: argparse.Namespace, stop: Event) -> Iterator[Outcome]:
+
+def outcomes(
+    crate: str, todo: list[Drawn], bench: Bench, options: argparse.Namespace, stop: Event
+) -> Iterator[Outcome]:
     """The verdicts on changes of a crate, in rounds or one at a time."""
     rounds = Rounds(bench, crate, bench.prove_unchanged(crate), stop, options.rounds)
     if not options.alone:
@@ -101,7 +123,7 @@ def scratch(given: Path | None) -> Iterator[Path]:
         given.mkdir(parents=True, exist_ok=True)
         yield given.resolve()
     else:
-        with tempfile.TemporaryDirectory(prefix='mutate-') as folder:
+        with tempfile.TemporaryDirectory(prefix="mutate-") as folder:
             yield Path(folder)
 
 
@@ -126,7 +148,7 @@ def try_all(todo: dict[str, list[Drawn]], log: Log, options: argparse.Namespace)
         try:
             list(pool.map(try_crate, todo))
         except KeyboardInterrupt:
-            print('ends once the checks that run are done; the log has what was tried', flush=True)
+            print("ends once the checks that run are done; the log has what was tried", flush=True)
             stop.set()
 
 
@@ -134,32 +156,63 @@ def print_table(tried: list[Tried]) -> None:
     """The number of changes of each crate by verdict, and the changes that are proved."""
     counts = Counter((one.crate, one.verdict) for one in tried)
     shown = [verdict for verdict in Verdict if any(counts[crate, verdict] for crate, _ in counts)]
-    print(f'{"":18}{"tried":>8}' + ''.join(f'{verdict:>26}' for verdict in shown))
+    print(f'{"":18}{"tried":>8}' + "".join(f"{verdict:>26}" for verdict in shown))
     for crate in [*sorted({one.crate for one in tried}), None]:
-        of_crate = [counts[crate, verdict] if crate else sum(n for (_, v), n in counts.items() if v == verdict) for verdict in shown]
-        print(f'{crate or "all":18}{sum(of_crate):8}' + ''.join(f'{n:26}' for n in of_crate))
+        of_crate = [
+            counts[crate, verdict]
+            if crate
+            else sum(n for (_, v), n in counts.items() if v == verdict)
+            for verdict in shown
+        ]
+        print(f'{crate or "all":18}{sum(of_crate):8}' + "".join(f"{n:26}" for n in of_crate))
     for one in tried:
         if one.verdict in (Verdict.PROVED, Verdict.UNKNOWN):
-            without = f', without {", ".join(one.removed)}' if one.removed else ''
-            print(f'\n{one.number}: {one.verdict}{without}: {one.kind} in {one.function}\n{one.diff}', end='')
+            without = f', without {", ".join(one.removed)}' if one.removed else ""
+            print(
+                f"\n{one.number}: {one.verdict}{without}: {one.kind} in {one.function}\n{one.diff}",
+                end="",
+            )
 
 
 def parsed() -> argparse.Namespace:
     parser = argparse.ArgumentParser(description=__doc__)
     add = parser.add_argument
-    add('--seed', type=int, default=1)
-    add('--count', type=int, default=20, metavar='N', help='how many changes of the seed')
-    add('--crate', action='append', metavar='NAME', help='a crate to draw from, may be repeated (left out: all libraries)')
-    add('--only', action='append', metavar='NAME',
-                        help='a crate whose changes are tried, may be repeated, in this order (left out: all that are drawn from)')
-    add('--resume', type=Path, metavar='FILE', help='the log: what it has is not tried again, and it gets the rest')
-    add('--jobs', type=int, default=1, metavar='N', help='how many crates at a time')
-    add('--seconds', type=float, default=SECONDS, metavar='S', help='the time of a check')
-    add('--alone', action='store_true', help='tries each change in a check of its own')
-    add('--rounds', type=int, metavar='N', help='how many rounds of a crate at most; a later call tries the rest')
-    add('--scratch', type=Path, metavar='DIR',
-                        help='where the copies are made, some 2 GB each, and stay for the next call (left out: a folder that goes again)')
-    add('--list', action='store_true', help='shows the changes as diffs, and tries none')
+    add("--seed", type=int, default=1)
+    add("--count", type=int, default=20, metavar="N", help="how many changes of the seed")
+    add(
+        "--crate",
+        action="append",
+        metavar="NAME",
+        help="a crate to draw from, may be repeated (left out: all libraries)",
+    )
+    add(
+        "--only",
+        action="append",
+        metavar="NAME",
+        help="a crate whose changes are tried, may be repeated, in this order (left out: all that are drawn from)",
+    )
+    add(
+        "--resume",
+        type=Path,
+        metavar="FILE",
+        help="the log: what it has is not tried again, and it gets the rest",
+    )
+    add("--jobs", type=int, default=1, metavar="N", help="how many crates at a time")
+    add("--seconds", type=float, default=SECONDS, metavar="S", help="the time of a check")
+    add("--alone", action="store_true", help="tries each change in a check of its own")
+    add(
+        "--rounds",
+        type=int,
+        metavar="N",
+        help="how many rounds of a crate at most; a later call tries the rest",
+    )
+    add(
+        "--scratch",
+        type=Path,
+        metavar="DIR",
+        help="where the copies are made, some 2 GB each, and stay for the next call (left out: a folder that goes again)",
+    )
+    add("--list", action="store_true", help="shows the changes as diffs, and tries none")
     return parser.parse_args()
 
 
@@ -173,16 +226,19 @@ def main() -> int:
     drawn = list(urn.all_drawn(options.seed, options.count))
     if options.list:
         for one in drawn:
-            print(f'{one.number}: {one.change.kind} in {one.change.function}\n{one.diff()}')
+            print(f"{one.number}: {one.change.kind} in {one.change.function}\n{one.diff()}")
         return 0
     log = Log(options.resume, urn, options.seed)
     for number in (signal.SIGINT, signal.SIGTERM):
         signal.signal(number, signal.default_int_handler)
-    todo = {crate: [one for one in drawn if one.crate == crate and not log.has(one.number)] for crate in tried_crates}
+    todo = {
+        crate: [one for one in drawn if one.crate == crate and not log.has(one.number)]
+        for crate in tried_crates
+    }
     try_all({crate: some for crate, some in todo.items() if some}, log, options)
     print_table([log.tried[one.number] for one in drawn if one.number in log.tried])
     return 0
 
 
-if __name__ == '__main__':
+if __name__ == "__main__":
     sys.exit(main())

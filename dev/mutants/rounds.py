@@ -20,6 +20,7 @@ MOST = 40
 @dataclass(frozen=True)
 class Outcome:
     """The verdict on a change, the number of others in its check, and the answers that were removed for it."""
+
     drawn: Drawn
     verdict: Verdict
     said: str
@@ -31,6 +32,7 @@ class Outcome:
 @dataclass(frozen=True)
 class Place:
     """A function in its file, and the names that a check has for it and for the closures in it."""
+
     file: str
     begin: int
     end: int
@@ -38,7 +40,7 @@ class Place:
 
     def is_in_proofs(self, file: str) -> bool:
         """Whether a proof file, named relative to its crate, is of this function."""
-        folders = ('/'.join(['proofs', *symbol.split('::')[1:], '']) for symbol in self.symbols)
+        folders = ("/".join(["proofs", *symbol.split("::")[1:], ""]) for symbol in self.symbols)
         return file.startswith(tuple(folders))
 
 
@@ -66,22 +68,27 @@ class Places:
 
     def symbol_of(self, file: str, source: Source, body: Body) -> str | None:
         """The name of a function: below its file, or below its type in another file for a method."""
-        name = '::'.join(filter(None, (source.owner(body), body.name)))
-        parts = file.removeprefix(f'crates/{self.crate}/src/').removesuffix('.rt').split('/')
-        own = '::'.join([self.crate, *(part for part in parts if part != 'lib'), name])
+        name = "::".join(filter(None, (source.owner(body), body.name)))
+        parts = file.removeprefix(f"crates/{self.crate}/src/").removesuffix(".rt").split("/")
+        own = "::".join([self.crate, *(part for part in parts if part != "lib"), name])
         if own in self.symbols:
             return own
-        others = [symbol for symbol in self.symbols if symbol.endswith(f'::{name}') and '::fn::' not in symbol]
-        return others[0] if len(others) == 1 and '::' in name else None
+        others = [
+            symbol
+            for symbol in self.symbols
+            if symbol.endswith(f"::{name}") and "::fn::" not in symbol
+        ]
+        return others[0] if len(others) == 1 and "::" in name else None
 
     def closures_in(self, source: Source, body: Body) -> list[str]:
-        name = '::'.join(filter(None, (source.owner(body), body.name)))
-        return [symbol for symbol in self.symbols if f'::fn::{name}::' in symbol]
+        name = "::".join(filter(None, (source.owner(body), body.name)))
+        return [symbol for symbol in self.symbols if f"::fn::{name}::" in symbol]
 
 
 @dataclass
 class Trial:
     """A change that is being tried, and the former texts of the proof files that were changed for it."""
+
     drawn: Drawn
     place: Place
     removed: list[str] = field(default_factory=list)
@@ -96,15 +103,23 @@ class Trial:
 @dataclass(frozen=True)
 class Judged:
     """The result of a check for a function: None if it has no verdict."""
+
     verdict: Verdict | None
-    said: str = ''
+    said: str = ""
     stale: tuple[tuple[str, int], ...] = ()
 
 
 class Rounds:
     """The rounds over the changes of a crate."""
 
-    def __init__(self, bench: Bench, crate: str, symbols: list[str], stop: threading.Event, most: int | None = None) -> None:
+    def __init__(
+        self,
+        bench: Bench,
+        crate: str,
+        symbols: list[str],
+        stop: threading.Event,
+        most: int | None = None,
+    ) -> None:
         """`most` limits the rounds. Changes that still wait then aren't tried, nor are changes in no function."""
         self.bench, self.crate, self.stop, self.left = bench, crate, stop, most
         self.places = Places(crate, symbols)
@@ -140,7 +155,9 @@ class Rounds:
 
     def tried_alone(self, drawn: Drawn) -> Outcome:
         began = time.monotonic()
-        verdict, said, removed = self.bench.try_change(self.crate, drawn.file, drawn.change.applied(drawn.text))
+        verdict, said, removed = self.bench.try_change(
+            self.crate, drawn.file, drawn.change.applied(drawn.text)
+        )
         return Outcome(drawn, verdict, said, removed, round(time.monotonic() - began, 1), 0)
 
     def round(self, queues: list[deque[Trial]]) -> Iterator[Outcome]:
@@ -170,7 +187,11 @@ class Rounds:
             for trial in trials:
                 yield from self.judged_by(check, trial, texts, len(trials) - 1)
             return
-        wrong = [trial for trial in trials if self.errors_in(check, trial, texts)] if check.is_unread() else []
+        wrong = (
+            [trial for trial in trials if self.errors_in(check, trial, texts)]
+            if check.is_unread()
+            else []
+        )
         for trial in wrong:
             said = self.errors_in(check, trial, texts)[0]
             yield trial.ended(Verdict.NO_SOURCE, said, len(trials) - 1)
@@ -179,21 +200,23 @@ class Rounds:
             queues = [self.waiting[trial.place.symbols] for trial in wrong]
             yield from self.judged(rest + [queue[0] for queue in queues if queue])
         elif len(rest) == 1:
-            yield rest[0].ended(Verdict.UNKNOWN, '', 0)
+            yield rest[0].ended(Verdict.UNKNOWN, "", 0)
         else:
-            for half in (rest[:len(rest) // 2], rest[len(rest) // 2:]):
+            for half in (rest[: len(rest) // 2], rest[len(rest) // 2 :]):
                 yield from self.judged(half)
 
-    def checked(self, trials: list[Trial]) -> tuple[Check, dict[str, 'Composed']]:
+    def checked(self, trials: list[Trial]) -> tuple[Check, dict[str, "Composed"]]:
         """Checks the crate with all these changes, and puts the sources back."""
         texts: dict[str, Composed] = {}
         for trial in trials:
-            texts.setdefault(trial.drawn.file, Composed(trial.drawn.text)).changes.append(trial.drawn.change)
+            texts.setdefault(trial.drawn.file, Composed(trial.drawn.text)).changes.append(
+                trial.drawn.change
+            )
         began = time.monotonic()
         try:
             for file, composed in texts.items():
                 (self.bench.folder / file).write_text(composed.text)
-            check = self.bench.check(self.crate, '--jobs', '1')
+            check = self.bench.check(self.crate, "--jobs", "1")
         finally:
             for file, composed in texts.items():
                 (self.bench.folder / file).write_text(composed.before)
@@ -201,7 +224,9 @@ class Rounds:
             trial.seconds += (time.monotonic() - began) / len(trials)
         return check, texts
 
-    def judged_by(self, check: Check, trial: Trial, texts: dict[str, 'Composed'], beside: int) -> Iterator[Outcome]:
+    def judged_by(
+        self, check: Check, trial: Trial, texts: dict[str, "Composed"], beside: int
+    ) -> Iterator[Outcome]:
         judged = self.judgement(check, trial, texts)
         if judged.stale and trial.tries < ROUNDS:
             dropped = self.bench.drop_answers(self.crate, list(judged.stale), trial.before)
@@ -214,15 +239,23 @@ class Rounds:
         else:
             yield trial.ended(judged.verdict, judged.said, beside)
 
-    def judgement(self, check: Check, trial: Trial, texts: dict[str, 'Composed']) -> Judged:
+    def judgement(self, check: Check, trial: Trial, texts: dict[str, "Composed"]) -> Judged:
         """The verdict of a check on a change, by the lines about its function and its function's proofs."""
-        said = [check.functions.get(symbol, 'nothing') for symbol in trial.place.symbols if symbol in check.functions]
-        failed = [line for line in said if line.startswith(('not proved', 'no proof'))]
-        if not failed or any(line.startswith('could not tell') for line in said):
+        said = [
+            check.functions.get(symbol, "nothing")
+            for symbol in trial.place.symbols
+            if symbol in check.functions
+        ]
+        failed = [line for line in said if line.startswith(("not proved", "no proof"))]
+        if not failed or any(line.startswith("could not tell") for line in said):
             return Judged(None)
-        told = [match for match in check.places if self.is_of(match['file'], int(match['line']), trial, texts)]
+        told = [
+            match
+            for match in check.places
+            if self.is_of(match["file"], int(match["line"]), trial, texts)
+        ]
         told = [match for match in told if is_error(match)] or told
-        goals = [line for line in failed if line.startswith('no proof: expected answers')]
+        goals = [line for line in failed if line.startswith("no proof: expected answers")]
         verdict = Verdict.REFUSED_WITHOUT if trial.removed else Verdict.REFUSED
         if told and (stale := stale_of(told)):
             return Judged(verdict, told[0][0][:300], tuple(stale))
@@ -230,17 +263,21 @@ class Rounds:
             return Judged(verdict, (goals or [told[0][0]])[0][:300])
         return Judged(None, failed[0][:300])
 
-    def is_of(self, file: str, line: int, trial: Trial, texts: dict[str, 'Composed']) -> bool:
+    def is_of(self, file: str, line: int, trial: Trial, texts: dict[str, "Composed"]) -> bool:
         """Whether a place, named relative to the crate, is in a change's function or in its proofs."""
-        if file.startswith('proofs/'):
+        if file.startswith("proofs/"):
             return trial.place.is_in_proofs(file)
-        whole = f'crates/{self.crate}/{file}'
+        whole = f"crates/{self.crate}/{file}"
         return whole == trial.drawn.file and line in texts[whole].lines_of(trial.place)
 
-    def errors_in(self, check: Check, trial: Trial, texts: dict[str, 'Composed']) -> list[str]:
+    def errors_in(self, check: Check, trial: Trial, texts: dict[str, "Composed"]) -> list[str]:
         """The front end's errors at places in a change's function."""
-        return [match[0][:300] for match in check.places
-                if 'error' in match['said'] and self.is_of(match['file'], int(match['line']), trial, texts)]
+        return [
+            match[0][:300]
+            for match in check.places
+            if "error" in match["said"]
+            and self.is_of(match["file"], int(match["line"]), trial, texts)
+        ]
 
     def put_back(self, trial: Trial) -> None:
         """Restores the proof files that were changed for a trial."""
@@ -253,6 +290,7 @@ class Rounds:
 @dataclass
 class Composed:
     """A file with several changes, no two of which overlap."""
+
     before: str
     changes: list[Change] = field(default_factory=list)
 
@@ -262,7 +300,7 @@ class Composed:
 
     @cached_property
     def text(self) -> str:
-        return Change('', '', self.edits).applied(self.before)
+        return Change("", "", self.edits).applied(self.before)
 
     def lines_of(self, place: Place) -> range:
         """The lines that a function has in the changed text."""
@@ -270,5 +308,9 @@ class Composed:
 
     def line_at(self, at: int) -> int:
         """The line in the changed text of a place in the text before that no change covers."""
-        moved = sum(new.count('\n') - self.before.count('\n', start, end) for start, end, new in self.edits if end <= at)
-        return self.before.count('\n', 0, at) + 1 + moved
+        moved = sum(
+            new.count("\n") - self.before.count("\n", start, end)
+            for start, end, new in self.edits
+            if end <= at
+        )
+        return self.before.count("\n", 0, at) + 1 + moved

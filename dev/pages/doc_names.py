@@ -17,6 +17,7 @@ from collections.abc import Iterator
 from pathlib import Path
 
 from dev.program import TOP
+
 PAGES = ("DEFINITIONS", "ARCHITECTURE", "LIBRARY", "TESTING")
 
 FILE = re.compile(r"(?:\b([a-z]\w*)(?:/specs/|/src/|: ))?\b(\w+\.(?:antt|rt))\b")
@@ -35,7 +36,9 @@ def files_in(text: str, crates: list[str]) -> Iterator[tuple[str, list[Path]]]:
         if crate and (TOP / "crates" / crate).is_dir():
             crates = [crate]
         part = "specs" if name.endswith(".antt") else "src"
-        yield name, [path for crate in crates for path in (TOP / "crates" / crate / part).rglob(name)]
+        yield name, [
+            path for crate in crates for path in (TOP / "crates" / crate / part).rglob(name)
+        ]
 
 
 def is_declared(name: str, files: list[Path]) -> bool:
@@ -64,7 +67,9 @@ def faults(text: str) -> Iterator[tuple[int, str]]:
             columns = [cell.split()[0] for cell in cells(line) if cell]
         elif {"definition", "file"} <= set(columns) and line.strip("|- "):
             row = cells(line)
-            files = [path for _, paths in files_in(row[columns.index("file")], crates) for path in paths]
+            files = [
+                path for _, paths in files_in(row[columns.index("file")], crates) for path in paths
+            ]
             for name in CODE.findall(row[columns.index("definition")]):
                 if not is_declared(name, files):
                     yield number, f"{name}: not declared in {row[columns.index('file')] or 'a file of the row'}"
@@ -75,7 +80,9 @@ def main() -> int:
     parser = argparse.ArgumentParser(
         description="Compares the names of definitions and files in the documents for developers with the crates."
     )
-    parser.add_argument("pages", nargs="*", type=Path, metavar="PAGE", help=f"default: {', '.join(PAGES)}")
+    parser.add_argument(
+        "pages", nargs="*", type=Path, metavar="PAGE", help=f"default: {', '.join(PAGES)}"
+    )
     options = parser.parse_args()
     count = 0
     for page in options.pages or [TOP / "docs/dev" / f"{name}.md" for name in PAGES]:

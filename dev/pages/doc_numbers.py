@@ -21,7 +21,9 @@ from model.images import MOST_BYTES as MOST_IMAGE_BYTES
 from model.instructions import decode, lag
 from model.setups import LARGE, SMALL
 
-CONSTANT = re.compile(r"^\s*(?:pub(?:\([a-z]+\))? )?const ([A-Z_]+): [a-z0-9]+ = ([0-9a-fA-Fx_]+);", re.M)
+CONSTANT = re.compile(
+    r"^\s*(?:pub(?:\([a-z]+\))? )?const ([A-Z_]+): [a-z0-9]+ = ([0-9a-fA-Fx_]+);", re.M
+)
 
 Table = list[list[str]]
 
@@ -103,7 +105,8 @@ EXAMPLES = {
     "EBREAK": 0x00100073,
     "illegal words": 0,
     **{
-        name: 0x02B50533 | funct3 << 12 for funct3, name in enumerate("MUL MULH MULHSU MULHU DIV DIVU REM REMU".split())
+        name: 0x02B50533 | funct3 << 12
+        for funct3, name in enumerate("MUL MULH MULHSU MULHU DIV DIVU REM REMU".split())
     },
 }
 """A word of each kind of instruction in the table of lags."""
@@ -134,7 +137,11 @@ EDGES = {"arithmetic": 1, "loads": 2, "MUL": 2, "CSR": 3, "branches": 1, "JAL,":
 def edges(pages: Pages) -> Iterator[str]:
     """The costs of edges: those of the table of lags."""
     for names, following in pages.table("BOUNDS.md", "Cost of each instruction"):
-        kinds = [name for name in re.split(r"[,;] ", names.replace("MUL to REMU", "MUL")) if name in EXAMPLES]
+        kinds = [
+            name
+            for name in re.split(r"[,;] ", names.replace("MUL to REMU", "MUL"))
+            if name in EXAMPLES
+        ]
         found = re.findall(r"the next word, (\d)|the target, (\d)", following)
         for kind in kinds if found else []:
             cost = lag(decode(EXAMPLES[kind]), False, False)
@@ -173,8 +180,14 @@ def causes(pages: Pages) -> Iterator[str]:
 
 def csrs(pages: Pages) -> Iterator[str]:
     """The table of control and status registers."""
-    rows = {row[1].strip("`"): int(row[0], 0) for row in pages.table("PROGRAMMING.md", "Control and status registers")}
-    code = {name.lower(): value for name, value in pages.constants(*(name.upper() for name in rows)).items()}
+    rows = {
+        row[1].strip("`"): int(row[0], 0)
+        for row in pages.table("PROGRAMMING.md", "Control and status registers")
+    }
+    code = {
+        name.lower(): value
+        for name, value in pages.constants(*(name.upper() for name in rows)).items()
+    }
     yield from (f"CSRs: {name} is {code[name]:#x}" for name in rows if rows[name] != code[name])
 
 
@@ -191,7 +204,10 @@ def statuses(pages: Pages) -> Iterator[str]:
     """The table of statuses."""
     rows = [int(row[0]) for row in pages.table("COMMANDS.md", "Streams and statuses")]
     code = [
-        int(number) for number in re.findall(r"^number_of [A-Z]\w* = (\d+)$", pages.source("number_of : Status"), re.M)
+        int(number)
+        for number in re.findall(
+            r"^number_of [A-Z]\w* = (\d+)$", pages.source("number_of : Status"), re.M
+        )
     ]
     if rows != sorted(code):
         yield f"statuses: the code has {sorted(code)}"

@@ -57,13 +57,19 @@ class Figure:
 
     def box(self, x: float, y: float, width: float, height: float, fill: str) -> None:
         """Draws a box."""
-        self.parts.append(element("rect", x=x, y=y, width=width, height=height, fill=fill, stroke="#666"))
+        self.parts.append(
+            element("rect", x=x, y=y, width=width, height=height, fill=fill, stroke="#666")
+        )
 
     def line(self, start: tuple[float, float], end: tuple[float, float], kind: str) -> None:
         """Draws a line."""
-        self.parts.append(element("line", x1=start[0], y1=start[1], x2=end[0], y2=end[1], class_=kind))
+        self.parts.append(
+            element("line", x1=start[0], y1=start[1], x2=end[0], y2=end[1], class_=kind)
+        )
 
-    def labelled(self, x: float, y: float, size: tuple[float, float], fill: str, words: str) -> None:
+    def labelled(
+        self, x: float, y: float, size: tuple[float, float], fill: str, words: str
+    ) -> None:
         """Draws a box with a text in its middle."""
         self.box(x, y, *size, fill)
         self.text(x + size[0] / 2, y + size[1] / 2 + 4, words, "c")
@@ -79,7 +85,13 @@ class Figure:
         size = {"markerWidth": 8.0, "markerHeight": 8.0, "refX": 7.0, "refY": 4.0}
         form = {"orient": "auto", "markerUnits": "userSpaceOnUse"}
         heads = (
-            element("marker", element("path", d="M0,0 L8,4 L0,8 z", style=f"fill:{colour};stroke:none"), id=name, **size, **form)
+            element(
+                "marker",
+                element("path", d="M0,0 L8,4 L0,8 z", style=f"fill:{colour};stroke:none"),
+                id=name,
+                **size,
+                **form,
+            )
             for name, colour in (("black", "#444"), ("red", "#d62728"), ("green", "#2ca02c"))
         )
         return picture(
@@ -100,7 +112,11 @@ def flexpret(folder: Path, *arguments: str) -> bytes:
     program = os.environ.get("FLEXPRET")
     command = [str(Path(program).resolve())] if program else [sys.executable, "-m", "model"]
     done = subprocess.run(
-        [*command, *arguments], cwd=folder, env={**os.environ, "PYTHONPATH": str(TOP)}, capture_output=True, check=False
+        [*command, *arguments],
+        cwd=folder,
+        env={**os.environ, "PYTHONPATH": str(TOP)},
+        capture_output=True,
+        check=False,
     )
     if done.returncode != 0:
         sys.exit(f"figures.py: {' '.join(arguments)}: status {done.returncode}")
@@ -157,7 +173,9 @@ def pipeline() -> Figure:
     texts = [" ".join(line.split(":")[-1].split()) for line in LOOP.splitlines()]
     left, wide, high, above = 190, 40, 26, 48
     figure = Figure(
-        left + 12 * wide + 20, above + 8 * high + 66, "The pipeline with forwarding, a late value and a redirect"
+        left + 12 * wide + 20,
+        above + 8 * high + 66,
+        "The pipeline with forwarding, a late value and a redirect",
     )
     figure.text(10, 20, "cycle", "s")
     for cycle in range(12):
@@ -168,7 +186,13 @@ def pipeline() -> Figure:
         what = "lost turn" if flushed else f"{shown[1][-2:]}  {texts[int(shown[1], 16) // 4]}"
         figure.text(10, top + 17, what, "s" if flushed else "m")
         for stage, letter in enumerate("FD" if flushed else "FDEMW"):
-            figure.labelled(left + (row + stage) * wide, top, (wide, high - 4), GREY if flushed else BLUE, letter)
+            figure.labelled(
+                left + (row + stage) * wide,
+                top,
+                (wide, high - 4),
+                GREY if flushed else BLUE,
+                letter,
+            )
 
     def centre(row: int, stage: int) -> tuple[float, float]:
         return left + (row + stage + 0.5) * wide, above + row * high + (high - 4) / 2
@@ -202,7 +226,9 @@ def frame() -> Figure:
             figure.line((x, 26), (x, 112), "g")
         figure.text(x + wide / 2, 46, slot, "c s")
         donated = slot[0] == "T" and slot != thread
-        figure.labelled(x, 60, (wide - 2, 30), YELLOW if donated else BLUE if slot != "S" else GREEN, thread)
+        figure.labelled(
+            x, 60, (wide - 2, 30), YELLOW if donated else BLUE if slot != "S" else GREEN, thread
+        )
     asleep = [66 + (cycle - first) * wide for cycle in (53, 68)]
     figure.line((asleep[0], 104), (asleep[1], 104), "r")
     figure.text(sum(asleep) / 2, 122, "T0 sleeps until 680 ns, which is cycle 68", "c s")
@@ -271,7 +297,9 @@ SECTION = [
 
 def section() -> Figure:
     """A section whose branch leaves it."""
-    figure = Figure(720, 262, "A section whose branch leaves it: the visit, and the bound, end there")
+    figure = Figure(
+        720, 262, "A section whose branch leaves it: the visit, and the bound, end there"
+    )
     figure.box(30, 26, 250, 78, BLUE)
     figure.text(30, 18, "section 0x10 to 0x1c", "b")
     for row, (address, label, code) in enumerate(SECTION):
@@ -339,8 +367,12 @@ FIGURES = {"pipeline": pipeline, "frame": frame, "memory": memory, "section": se
 def main() -> int:
     """Writes or compares the figures."""
     parser = argparse.ArgumentParser(description="Draws the figures of the documents as SVG.")
-    parser.add_argument("--check", action="store_true", help="write nothing; status 1 if a stored figure differs")
-    parser.add_argument("folder", nargs="?", type=Path, default=TOP / "docs", metavar="FOLDER", help="default: docs")
+    parser.add_argument(
+        "--check", action="store_true", help="write nothing; status 1 if a stored figure differs"
+    )
+    parser.add_argument(
+        "folder", nargs="?", type=Path, default=TOP / "docs", metavar="FOLDER", help="default: docs"
+    )
     options = parser.parse_args()
     differ = 0
     for name, draw in FIGURES.items():

@@ -13,6 +13,7 @@ from collections.abc import Iterator
 from pathlib import Path
 
 from dev.program import TOP
+
 LINK = re.compile(r"\]\(([^)\s]+)\)")
 
 
@@ -61,7 +62,9 @@ def broken(page: Path) -> Iterator[str]:
 def pages() -> list[Path]:
     """The Markdown files of the repository, without generated ones."""
     return sorted(
-        page for page in TOP.rglob("*.md") if not {"out", ".git", "node_modules"} & set(page.relative_to(TOP).parts)
+        page
+        for page in TOP.rglob("*.md")
+        if not {"out", ".git", "node_modules"} & set(page.relative_to(TOP).parts)
     )
 
 

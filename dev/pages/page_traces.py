@@ -20,6 +20,7 @@ from dataclasses import dataclass, field
 from pathlib import Path
 
 from dev.program import TOP
+
 PAGE = TOP / "docs/PROGRAMMING.md"
 
 SHOWN = re.compile(r"#\s+(\d+) ([0-9a-f]{8}) ([0-9a-f]{8}) (.*?)(\s{2,}.*)?$")
@@ -61,9 +62,13 @@ class Block:
         """The setup, by the settings."""
         values = dict(setting.split("=", 1) for setting in self.settings if "=" in setting)
         text = SETUP + '[[thread]]\nid = 0\nmode = "hard"\nentry = 0\n'
-        text += "".join(f"{flag} = true\n" for flag in ("confined", "permit") if flag in self.settings)
+        text += "".join(
+            f"{flag} = true\n" for flag in ("confined", "permit") if flag in self.settings
+        )
         text += f"inputs = {values['inputs']}\n" if "inputs" in values else ""
-        text += f'[[thread]]\nid = 1\nmode = "hard"\nentry = {values["t1"]}\n' if "t1" in values else ""
+        text += (
+            f'[[thread]]\nid = 1\nmode = "hard"\nentry = {values["t1"]}\n' if "t1" in values else ""
+        )
         return text
 
     def shown(self) -> list[str]:
@@ -98,7 +103,9 @@ def flexpret(folder: Path, *arguments: str) -> subprocess.CompletedProcess[bytes
     program = os.environ.get("FLEXPRET")
     command = [str(Path(program).resolve())] if program else [sys.executable, "-m", "model"]
     variables = {**os.environ, "PYTHONPATH": str(TOP)}
-    return subprocess.run([*command, *arguments], cwd=folder, env=variables, capture_output=True, check=False)
+    return subprocess.run(
+        [*command, *arguments], cwd=folder, env=variables, capture_output=True, check=False
+    )
 
 
 def wrong_lines(block: Block, folder: Path) -> list[str]:

@@ -58,12 +58,18 @@ def files_of(kind: str) -> Iterator[Path]:
 
 def places(names: list[str]) -> Iterator[Place]:
     """The places that name one of the instructions."""
-    words = {spelling for name in names for spelling in (name.lower(), name.capitalize(), name.upper())}
+    words = {
+        spelling for name in names for spelling in (name.lower(), name.capitalize(), name.upper())
+    }
     pattern = re.compile(rf"\b(?:{'|'.join(sorted(words))})\b|fp_\w*_({'|'.join(sorted(words))})\b")
     for kind in KINDS:
         for file in files_of(kind):
             text = file.read_text(errors="replace")
-            lines = {number: line.strip() for number, line in enumerate(text.splitlines(), 1) if pattern.search(line)}
+            lines = {
+                number: line.strip()
+                for number, line in enumerate(text.splitlines(), 1)
+                if pattern.search(line)
+            }
             if lines:
                 yield Place(kind, file.relative_to(TOP), lines)
 

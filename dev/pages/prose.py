@@ -65,7 +65,13 @@ def paragraphs(text: str) -> Iterator[tuple[int, str, bool]]:
         if stripped.startswith("```"):
             fenced = not fenced
         code = line.startswith("    ") and (blank or code) and bool(stripped)
-        ends = fenced or code or not stripped or stripped.startswith(("#", "|", "```")) or LIST_ITEM.match(line)
+        ends = (
+            fenced
+            or code
+            or not stripped
+            or stripped.startswith(("#", "|", "```"))
+            or LIST_ITEM.match(line)
+        )
         if held and ends:
             yield first, " ".join(held), False
             held = []
@@ -104,8 +110,16 @@ def user_pages() -> list[Path]:
 def other_pages() -> list[Path]:
     """All other pages, man pages, and the tools and scripts with a `--help`."""
     pages = [*(TOP / "docs/dev").glob("*.md"), TOP / "CHANGELOG.md", TOP / "tools/README.md"]
-    pages += [*(TOP / "examples").rglob("README.md"), TOP / "model/README.md", TOP / "rtl/README.md"]
-    tools = [*(TOP / "tools/fptools/commands").glob("fp_*.py"), TOP / "tools/fp_launch", TOP / "tools/install.sh"]
+    pages += [
+        *(TOP / "examples").rglob("README.md"),
+        TOP / "model/README.md",
+        TOP / "rtl/README.md",
+    ]
+    tools = [
+        *(TOP / "tools/fptools/commands").glob("fp_*.py"),
+        TOP / "tools/fp_launch",
+        TOP / "tools/install.sh",
+    ]
     tools += [TOP / "flexpret", TOP / "flexpret-view"]
     return sorted(pages) + sorted((TOP / "tools").glob("*.1")) + sorted(tools)
 
@@ -159,7 +173,9 @@ def named_texts(tree: ast.Module) -> Iterator[tuple[str, str]]:
             source = TOP / "tools" / f"{(node.module or '').replace('.', '/')}.py"
             wanted = {it.name for it in node.names if it.name.isupper()}
             if wanted and source.is_file():
-                yield from (it for it in named_texts(ast.parse(source.read_text())) if it[0] in wanted)
+                yield from (
+                    it for it in named_texts(ast.parse(source.read_text())) if it[0] in wanted
+                )
 
 
 def literal(node: ast.expr, named: Mapping[str, str]) -> str:
@@ -167,7 +183,9 @@ def literal(node: ast.expr, named: Mapping[str, str]) -> str:
     if isinstance(node, ast.Constant):
         return node.value if isinstance(node.value, str) else ""
     if isinstance(node, ast.JoinedStr):
-        return "".join(literal(it, named) if isinstance(it, ast.Constant) else "CODE" for it in node.values)
+        return "".join(
+            literal(it, named) if isinstance(it, ast.Constant) else "CODE" for it in node.values
+        )
     if isinstance(node, ast.BinOp):
         return literal(node.left, named) + literal(node.right, named)
     return named.get(node.id, "") if isinstance(node, ast.Name) else ""
@@ -208,11 +226,15 @@ def measured(name: str, pages: list[Path]) -> Group:
         text = text_of(page)
         one = Group(page.name, len(text.split()), sentences(page.name, text))
         longest = max((it.length for it in one.found), default=0)
-        print(f"{one.name:18} {one.words:6} words, mean sentence {one.mean:5.1f}, longest {longest:3}")
+        print(
+            f"{one.name:18} {one.words:6} words, mean sentence {one.mean:5.1f}, longest {longest:3}"
+        )
         words += one.words
         found += one.found
     group = Group(name, words, found)
-    print(f"{group.name:18} {group.words:6} words, mean sentence {group.mean:5.1f}, {len(group.long)} over {LONGEST}")
+    print(
+        f"{group.name:18} {group.words:6} words, mean sentence {group.mean:5.1f}, {len(group.long)} over {LONGEST}"
+    )
     return group
 
 
@@ -221,7 +243,9 @@ def main() -> int:
     parser = argparse.ArgumentParser(
         description="Counts the words of the documents for users, and measures the sentences of all documents."
     )
-    parser.add_argument("--longest", type=int, default=0, metavar="N", help="also print the N longest sentences")
+    parser.add_argument(
+        "--longest", type=int, default=0, metavar="N", help="also print the N longest sentences"
+    )
     parser.add_argument("pages", nargs="*", type=Path, metavar="PAGE", help="default: all")
     options = parser.parse_args()
     try:
@@ -231,7 +255,9 @@ def main() -> int:
         print(f"prose.py: {error}", file=sys.stderr)
         return 2
     for group in groups:
-        for it in sorted(group.found, key=lambda each: -each.length)[: max(options.longest, len(group.long))]:
+        for it in sorted(group.found, key=lambda each: -each.length)[
+            : max(options.longest, len(group.long))
+        ]:
             print(f"{it.page}:{it.line}: {it.length} words: {it.text}")
     is_wrong = any(group.mean >= MEAN_BELOW or group.long for group in groups)
     return int(groups[0].words > MOST_WORDS or is_wrong)

@@ -5,7 +5,11 @@ import sys
 
 WIDTH, HEIGHT = 760, 380
 LEFT, RIGHT, TOP, BOTTOM = 56, 20, 34, 46
-CURVES = [("set point", "#888888", "6 4", 1.5), ("drive", "#c77000", "", 1.2), ("measured value", "#0060b0", "", 2.2)]
+CURVES = [
+    ("set point", "#888888", "6 4", 1.5),
+    ("drive", "#c77000", "", 1.2),
+    ("measured value", "#0060b0", "", 2.2),
+]
 
 
 def scaled(value: float, low: float, high: float, begin: float, end: float) -> float:
@@ -33,12 +37,20 @@ def draw(rows: list[list[float]]) -> str:
     ]
     for value in (tick + least for tick in ticks(most - least, 5)):
         parts.append(f'<path d="M{LEFT} {y(value):.1f}H{WIDTH - RIGHT}" stroke="#dddddd"/>')
-        parts.append(f'<text x="{LEFT - 8}" y="{y(value) + 4:.1f}" text-anchor="end">{value:g}</text>')
+        parts.append(
+            f'<text x="{LEFT - 8}" y="{y(value) + 4:.1f}" text-anchor="end">{value:g}</text>'
+        )
     for us in ticks(last / 1000, 200):
         parts.append(f'<path d="M{x(us * 1000):.1f} {HEIGHT - BOTTOM}v5" stroke="black"/>')
-        parts.append(f'<text x="{x(us * 1000):.1f}" y="{HEIGHT - BOTTOM + 19}" text-anchor="middle">{us:g}</text>')
-    parts.append(f'<path d="M{LEFT} {TOP}V{HEIGHT - BOTTOM}H{WIDTH - RIGHT}" fill="none" stroke="black"/>')
-    parts.append(f'<text x="{(LEFT + WIDTH - RIGHT) / 2:.0f}" y="{HEIGHT - 8}" text-anchor="middle">microseconds</text>')
+        parts.append(
+            f'<text x="{x(us * 1000):.1f}" y="{HEIGHT - BOTTOM + 19}" text-anchor="middle">{us:g}</text>'
+        )
+    parts.append(
+        f'<path d="M{LEFT} {TOP}V{HEIGHT - BOTTOM}H{WIDTH - RIGHT}" fill="none" stroke="black"/>'
+    )
+    parts.append(
+        f'<text x="{(LEFT + WIDTH - RIGHT) / 2:.0f}" y="{HEIGHT - 8}" text-anchor="middle">microseconds</text>'
+    )
     for column, (name, colour, dashes, width) in enumerate(CURVES, 1):
         points = " ".join(f"{x(row[0]):.1f},{y(row[column]):.1f}" for row in rows)
         style = f'fill="none" stroke="{colour}" stroke-width="{width}" stroke-dasharray="{dashes}"'

@@ -47,16 +47,22 @@ def is_elf(program: Path) -> bool:
 def make(folder: Path, most: int) -> None:
     program = Path(os.environ.get("FLEXPRET") or BUILT)
     if not os.access(program, os.X_OK):
-        raise FileNotFoundError(f"{program} is no program: build it by ./flexpret, or name it by FLEXPRET")
+        raise FileNotFoundError(
+            f"{program} is no program: build it by ./flexpret, or name it by FLEXPRET"
+        )
     if not is_elf(program):
-        raise OSError(f"{program} is no ELF executable: name the program itself, no script that calls it")
+        raise OSError(
+            f"{program} is no ELF executable: name the program itself, no script that calls it"
+        )
     (folder / "setups").mkdir(parents=True)
     (folder / "results").mkdir()
     shutil.copy(program, folder / "flexpret")
     for file in (*HERE.glob("*.sh"), HERE / "slack.gp", HERE.parent / "sum.fpx"):
         shutil.copy(file, folder)
     words = [str(program), "asm", str(HERE / "period.s")]
-    (folder / "period.fpx").write_bytes(subprocess.run(words, stdout=subprocess.PIPE, check=True).stdout)
+    (folder / "period.fpx").write_bytes(
+        subprocess.run(words, stdout=subprocess.PIPE, check=True).stdout
+    )
     frames = ["".join(frame) for frame in product("ST", repeat=8) if "T" in frame]
     with (folder / "jobs.tsv").open("w", encoding="ascii") as jobs:
         for period, frame in product(range(1, most + 1), frames):

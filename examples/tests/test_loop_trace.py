@@ -20,7 +20,9 @@ LINES = """\
 
 
 def said(lines: str) -> tuple[int, str, str]:
-    ran = subprocess.run([sys.executable, SCRIPT], input=lines, capture_output=True, text=True, check=False)
+    ran = subprocess.run(
+        [sys.executable, SCRIPT], input=lines, capture_output=True, text=True, check=False
+    )
     return ran.returncode, ran.stdout, ran.stderr
 
 

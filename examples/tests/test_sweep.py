@@ -97,7 +97,9 @@ def test_the_table_has_the_setups_with_their_results(work: Path) -> None:
 def test_a_result_that_is_no_bound_makes_no_table(work: Path, text: str) -> None:
     (work / "results/02-SSSSSSST.txt").write_text(text)
     ran = tabled(work)
-    assert ran.returncode == 1 and ran.stderr.startswith("table.py: ") and ran.stderr.count("\n") == 1
+    assert (
+        ran.returncode == 1 and ran.stderr.startswith("table.py: ") and ran.stderr.count("\n") == 1
+    )
     assert not (work / "table.tsv").exists()
 
 
@@ -127,7 +129,15 @@ def array(folder: Path, numbers: list[int]) -> tuple[list[str], list[int]]:
 
 @pytest.mark.parametrize(
     "numbers",
-    [range(0, 4), range(1, 5), range(1, 11), range(0, 20, 2), range(3, 30, 9), range(7, 8), range(0, 40)],
+    [
+        range(0, 4),
+        range(1, 5),
+        range(1, 11),
+        range(0, 20, 2),
+        range(3, 30, 9),
+        range(7, 8),
+        range(0, 40),
+    ],
 )
 def test_the_tasks_of_an_array_do_each_job_once(tmp_path: Path, numbers: range) -> None:
     done, statuses = array(tmp_path, list(numbers))
@@ -136,7 +146,9 @@ def test_the_tasks_of_an_array_do_each_job_once(tmp_path: Path, numbers: range) 
 
 
 @pytest.mark.parametrize("numbers", [[0, 1, 5], [0, 6, 7, 8], [1, 2, 4]])
-def test_tasks_whose_numbers_rise_by_other_steps_are_refused(tmp_path: Path, numbers: list[int]) -> None:
+def test_tasks_whose_numbers_rise_by_other_steps_are_refused(
+    tmp_path: Path, numbers: list[int]
+) -> None:
     assert 1 in array(tmp_path, numbers)[1]
 
 
@@ -158,7 +170,9 @@ def test_a_frame_with_slack_is_in_time(tmp_path: Path, flexpret: str, clock: int
         (result,) = results_of(judge, Budget("it", 0, 0, 0, None, period=PeriodOf(None, None)))
         assert result.bound == bound, frame
         own = tmp_path / "own.toml"
-        own.write_text((folder / f"setups/{name}.toml").read_text().replace("sum.fpx", str(setup.image)))
+        own.write_text(
+            (folder / f"setups/{name}.toml").read_text().replace("sum.fpx", str(setup.image))
+        )
         runs = PeriodRuns(Flexpret(flexpret), read_setup(own), 40 * bound, "test")
         text = runs.compared([result])[0].text
         assert ("no wait is late" in text) == (bound <= 2000 // clock), (frame, text)

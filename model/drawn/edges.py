@@ -15,7 +15,16 @@ SET = 0.7
 """How often a calculation is preceded by new values of its operands."""
 
 FEWEST_CYCLES = 300
-WEIGHTS: dict[str, float] = {"op": 25, "mul": 50, "branch": 8, "load": 5, "store": 5, "port": 4, "jal": 1, "time": 1}
+WEIGHTS: dict[str, float] = {
+    "op": 25,
+    "mul": 50,
+    "branch": 8,
+    "load": 5,
+    "store": 5,
+    "port": 4,
+    "jal": 1,
+    "time": 1,
+}
 """The kinds of pieces of code, with their frequencies."""
 
 
@@ -46,7 +55,9 @@ class EdgeWorld(World):
 
     def _mul(self) -> list[Ins]:
         code, first, second = self._operands()
-        return code + [muldiv(self.chance.choice(list(PRODUCTS.values())), self._register(), first, second)]
+        return code + [
+            muldiv(self.chance.choice(list(PRODUCTS.values())), self._register(), first, second)
+        ]
 
     def _op(self) -> list[Ins]:
         chance = self.chance
@@ -54,7 +65,14 @@ class EdgeWorld(World):
             return super()._op()
         code, first, second = self._operands()
         if chance.random() < 0.3:
-            return code + [shift(chance.choice(list(SHIFTS.values())), self._register(), first, chance.randrange(32))]
+            return code + [
+                shift(
+                    chance.choice(list(SHIFTS.values())),
+                    self._register(),
+                    first,
+                    chance.randrange(32),
+                )
+            ]
         op = chance.choice(["Add", "Sub", "Sll", "Slt", "Sltu", "Xor", "Srl", "Sra", "Or", "And"])
         return code + [arithmetic(op, self._register(), first, second)]
 

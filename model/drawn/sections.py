@@ -48,9 +48,19 @@ class Section:
         if chance.random() < 0.04:
             return chance.choice(ENDS)
         if chance.random() < 0.3:
-            return branch(chance.choice(list(BRANCHES.values())), 5, 0, 4 * chance.choice([1, 2, 2, 3, 4, 6]))
-        plain = [addi(0, 0, 0), addi(5, 0, 1), load("Lw", 6, 0, 0), csr("Rw", 0, MSCRATCH, 1), muldiv("Mul", 3, 4, 2)]
-        return chance.choice([*plain, arithmetic("Add", 1, 2, 3), jal(0, 4), jal(0, 8), Ins("Gt", rd=10)])
+            return branch(
+                chance.choice(list(BRANCHES.values())), 5, 0, 4 * chance.choice([1, 2, 2, 3, 4, 6])
+            )
+        plain = [
+            addi(0, 0, 0),
+            addi(5, 0, 1),
+            load("Lw", 6, 0, 0),
+            csr("Rw", 0, MSCRATCH, 1),
+            muldiv("Mul", 3, 4, 2),
+        ]
+        return chance.choice(
+            [*plain, arithmetic("Add", 1, 2, 3), jal(0, 4), jal(0, 8), Ins("Gt", rd=10)]
+        )
 
     def _add_loop(self, most_rounds: int) -> None:
         """A loop of words that no other loop's end is in, or any."""
@@ -86,7 +96,9 @@ class Calling:
         return Part(self.firsts[k], self.firsts[k] + 4 * self.counts[k], k != self.caller)
 
     def _part(self, k: int) -> list[Ins]:
-        words = [self._word(k, self.firsts[k] + 4 * j, self.counts[k] - j) for j in range(self.counts[k])]
+        words = [
+            self._word(k, self.firsts[k] + 4 * j, self.counts[k] - j) for j in range(self.counts[k])
+        ]
         if k != self.caller and self.chance.random() < 0.95:
             words[-1] = Ins("Jalr", rs1=1)
         return words
@@ -100,7 +112,9 @@ class Calling:
             return Ins("Jalr", rs1=1)
         if chance.random() < 0.2 and left > 2:
             return branch("Bne", 5, 0, 4 * chance.randrange(2, min(left, 5)))
-        return chance.choice([addi(0, 0, 0), addi(5, 5, 1), load("Lw", 6, 0, 0), muldiv("Mul", 3, 4, 2)])
+        return chance.choice(
+            [addi(0, 0, 0), addi(5, 5, 1), load("Lw", 6, 0, 0), muldiv("Mul", 3, 4, 2)]
+        )
 
     def _callee(self, k: int) -> int:
         """A routine that a function calls: mostly a later one in the order of calls, so that none calls itself."""

@@ -13,7 +13,18 @@ from model.drawn.code import (
 from model.images import DATA, Image, Segments
 from model.instructions import BRANCHES, CSR_OPS, IMMEDIATES, PRODUCTS, SHIFTS, Ins
 from model.ports import Counter, HeldPort, Ports, Wave
-from model.registers import DREGIONS, IREGIONS, MCAUSE, MEPC, MHARTID, MODES, MSCRATCH, MTVEC, PORT, SLOTS
+from model.registers import (
+    DREGIONS,
+    IREGIONS,
+    MCAUSE,
+    MEPC,
+    MHARTID,
+    MODES,
+    MSCRATCH,
+    MTVEC,
+    PORT,
+    SLOTS,
+)
 from model.setups import LARGE, NO_SLOT, READ_ONLY, REGIONS, SHARED, SMALL, SOFT_SLOT, THREADS
 from model.setups import MODES as MODE_NAMES
 from model.setups import SLOTS as SLOT_NAMES
@@ -154,7 +165,9 @@ class World:
             if thread.unplug is not None:
                 lines.append(f"unplug = {thread.unplug}")
             if thread.inputs:
-                lines.append(f"inputs = [{', '.join(f'[{at}, {value}]' for at, value in thread.inputs)}]")
+                lines.append(
+                    f"inputs = [{', '.join(f'[{at}, {value}]' for at, value in thread.inputs)}]"
+                )
         return "".join(f"{line}\n" for line in lines).encode()
 
     def ports(self) -> Ports:
@@ -162,7 +175,9 @@ class World:
         chance = random.Random(self.seed + 1)
         ports: Ports = []
         for _ in range(THREADS):
-            port = chance.choice([None, HeldPort(), HeldPort(), Wave(chance.randrange(1, 9)), Counter()])
+            port = chance.choice(
+                [None, HeldPort(), HeldPort(), Wave(chance.randrange(1, 9)), Counter()]
+            )
             if port is not None and chance.random() < 0.3:
                 port.kept = chance.getrandbits(32)
             ports.append(port)
@@ -178,7 +193,10 @@ class World:
                 segments.append((k * self.region, bytes_of(self._code(k * self.region))))
         for k in range(8):
             if chance.random() < 0.6:
-                words = [chance.getrandbits(32).to_bytes(4, "little") for _ in range(chance.choice([4, 16, 64]))]
+                words = [
+                    chance.getrandbits(32).to_bytes(4, "little")
+                    for _ in range(chance.choice([4, 16, 64]))
+                ]
                 segments.append((DATA + k * self.region, b"".join(words)))
         return Image(segments)
 
@@ -194,7 +212,9 @@ class World:
         """Writes of configuration registers, back and forth, a few cycles apart."""
         chance = self.chance
         settings = (SLOTS, MODES)
-        written = chance.choice([settings, settings, (DREGIONS, IREGIONS), (*settings, DREGIONS, IREGIONS)])
+        written = chance.choice(
+            [settings, settings, (DREGIONS, IREGIONS), (*settings, DREGIONS, IREGIONS)]
+        )
         values: list[tuple[int, int]] = []
         code: list[Ins] = []
         for register in range(16, 22):
@@ -213,13 +233,20 @@ class World:
         chance = self.chance
         if number == MODES:
             return sum(
-                (m if k == 0 or chance.random() < 0.4 else chance.choice([0, 1, 0, 1, 2, 3] if m > 1 else [0, 1]))
+                (
+                    m
+                    if k == 0 or chance.random() < 0.4
+                    else chance.choice([0, 1, 0, 1, 2, 3] if m > 1 else [0, 1])
+                )
                 << 2 * k
                 for k, m in enumerate(self.modes)
             )
         held = {SLOTS: self.slots, DREGIONS: self.dregions, IREGIONS: self.iregions}[number]
         pool = [0, 1, 2, 3, SOFT_SLOT, NO_SLOT] if number == SLOTS else [0, 1, 2, SHARED, READ_ONLY]
-        return sum((v if k == 0 or chance.random() < 0.5 else chance.choice(pool)) << 4 * k for k, v in enumerate(held))
+        return sum(
+            (v if k == 0 or chance.random() < 0.5 else chance.choice(pool)) << 4 * k
+            for k, v in enumerate(held)
+        )
 
     def _pointers(self, at: int) -> list[Ins]:
         """Gives the registers for addresses new ones, and at a region's start often a handler."""
@@ -228,7 +255,11 @@ class World:
         good = [j for j in range(8) if self.dregions[j] == who]
         good = good or [j for j in range(8) if self.dregions[j] in (SHARED, READ_ONLY)]
         others = [j for j in range(8) if self.dregions[j] in (who, SHARED, READ_ONLY)]
-        code = li(OWN, self._data_address(good)) + li(OWN_FAR, self._data_address(others)) + li(PORT_BASE, PORT)
+        code = (
+            li(OWN, self._data_address(good))
+            + li(OWN_FAR, self._data_address(others))
+            + li(PORT_BASE, PORT)
+        )
         target = chance.randrange(8) * self.region + 4 * chance.randrange(40)
         if chance.random() < 0.6:
             target = at - at % self.region + 4 * chance.randrange(40)
@@ -241,7 +272,9 @@ class World:
     def _data_address(self, regions: Sequence[int]) -> int:
         """An address, mostly in one of some regions."""
         chance = self.chance
-        region = chance.choice(regions) if regions and chance.random() < 0.85 else chance.randrange(8)
+        region = (
+            chance.choice(regions) if regions and chance.random() < 0.85 else chance.randrange(8)
+        )
         address = DATA + region * self.region + chance.choice([0, 0, self.region - 16])
         if chance.random() < 0.1:
             address = chance.randrange(8) * self.region
@@ -255,13 +288,19 @@ class World:
         return self.chance.choice(CALCULATED)
 
     def _base(self) -> int:
-        return self.chance.choice([OWN] * 16 + [OWN_FAR] * 8 + [PORT_BASE, TARGET, TARGET, self._register()])
+        return self.chance.choice(
+            [OWN] * 16 + [OWN_FAR] * 8 + [PORT_BASE, TARGET, TARGET, self._register()]
+        )
 
     def _offset(self, size: int) -> int:
         chance = self.chance
         if chance.random() < 0.06:
             return chance.randrange(-2048, 2048)
-        return size * chance.randrange(0, 8) if chance.random() < 0.9 else 4 * chance.randrange(-512, 512)
+        return (
+            size * chance.randrange(0, 8)
+            if chance.random() < 0.9
+            else 4 * chance.randrange(-512, 512)
+        )
 
     def _weights(self) -> dict[str, float]:
         """How often each kind of piece is drawn."""
@@ -298,7 +337,9 @@ class World:
         return [muldiv(op, self._register(), self._register(), self._register())]
 
     def _load(self) -> list[Ins]:
-        op, size = self.chance.choice([("Lb", 1), ("Lh", 2), ("Lw", 4), ("Lw", 4), ("Lbu", 1), ("Lhu", 2)])
+        op, size = self.chance.choice(
+            [("Lb", 1), ("Lh", 2), ("Lw", 4), ("Lw", 4), ("Lbu", 1), ("Lhu", 2)]
+        )
         return [load(op, self._register(), self._base(), self._offset(size))]
 
     def _store(self) -> list[Ins]:
@@ -315,7 +356,14 @@ class World:
 
     def _branch(self) -> list[Ins]:
         offset = 4 * self.chance.randrange(-6, 8) + (2 if self.chance.random() < 0.04 else 0)
-        return [branch(self.chance.choice(list(BRANCHES.values())), self._register(), self._register(), offset)]
+        return [
+            branch(
+                self.chance.choice(list(BRANCHES.values())),
+                self._register(),
+                self._register(),
+                offset,
+            )
+        ]
 
     def _jal(self) -> list[Ins]:
         chance = self.chance
@@ -341,7 +389,9 @@ class World:
     def _csr(self) -> list[Ins]:
         chance = self.chance
         own = (SLOTS, MODES, DREGIONS, IREGIONS)
-        number = chance.choice([MTVEC, MSCRATCH, MEPC, MCAUSE, MHARTID] * 4 + [*own, 0xC00, chance.randrange(4096)])
+        number = chance.choice(
+            [MTVEC, MSCRATCH, MEPC, MCAUSE, MHARTID] * 4 + [*own, 0xC00, chance.randrange(4096)]
+        )
         op = chance.choice(list(CSR_OPS.values()))
         source = chance.choice([0, 0, TARGET, self._register(), chance.randrange(32)])
         if number in own and not self.writes:
@@ -364,8 +414,12 @@ class World:
         """A wait until a moment that is some cycles away, or its expiry."""
         chance = self.chance
         length = max(1, sum(v != NO_SLOT for v in self.slots))
-        cycles = chance.choice([-3, 0, 1, 2, 3, 4, 5, 6, 7, 8, 9, 12, 20]) * chance.choice([1, length, length])
-        away = (cycles + chance.choice([0, 0, 1, 2, -1])) * self.period + chance.choice([0, 0, -1, 1])
+        cycles = chance.choice([-3, 0, 1, 2, 3, 4, 5, 6, 7, 8, 9, 12, 20]) * chance.choice(
+            [1, length, length]
+        )
+        away = (cycles + chance.choice([0, 0, 1, 2, -1])) * self.period + chance.choice(
+            [0, 0, -1, 1]
+        )
         away = max(-2048, min(2047, away))
         if self.period == 1000:
             away = chance.choice([-5, 0, 999, 1000, 1001, 2000, 2047])
@@ -373,7 +427,10 @@ class World:
         code = [Ins("Gt", rd=MOMENT), addi(MOMENT, MOMENT, away), last]
         if last.kind == "Ee" and chance.random() < 0.6:
             more = min(2047, chance.choice([0, 3, 5, 9, 2 * length]) * self.period)
-            code += [addi(MOMENT, MOMENT, more), timed(chance.choice(["Wu", "Du", "Wu"]), 0, MOMENT)]
+            code += [
+                addi(MOMENT, MOMENT, more),
+                timed(chance.choice(["Wu", "Du", "Wu"]), 0, MOMENT),
+            ]
         return code
 
     def _sys(self) -> list[Ins]:
@@ -383,7 +440,9 @@ class World:
         return [
             Ins(
                 "Fence",
-                imm=self.chance.choice([0x0FF0000F, 0x0000100F, 0x0000000F | self.chance.getrandbits(17) << 15]),
+                imm=self.chance.choice(
+                    [0x0FF0000F, 0x0000100F, 0x0000000F | self.chance.getrandbits(17) << 15]
+                ),
             )
         ]
 
@@ -398,14 +457,17 @@ class World:
         if chance.random() < 0.15:
             code = li(WRITTEN, 1 << chance.randrange(32))
             return code + [csr(chance.choice(["Rs", "Rc"]), self._register(), number, WRITTEN)]
-        return li(WRITTEN, value) + [csr("Rw", chance.choice([0, self._register()]), number, WRITTEN)]
+        return li(WRITTEN, value) + [
+            csr("Rw", chance.choice([0, self._register()]), number, WRITTEN)
+        ]
 
     def _written(self, number: int) -> int:
         """A word for a configuration register, mostly near to the setup's."""
         chance = self.chance
         if number == SLOTS:
             value = sum(
-                chance.choice([0, 1, 2, 3, 4, 14, 15, 0, 1, 2, chance.randrange(16)]) << 4 * k for k in range(8)
+                chance.choice([0, 1, 2, 3, 4, 14, 15, 0, 1, 2, chance.randrange(16)]) << 4 * k
+                for k in range(8)
             )
             if chance.random() < 0.8:
                 value = sum(
@@ -417,7 +479,8 @@ class World:
             return self._written_modes()
         held = self.dregions if number == DREGIONS else self.iregions
         return sum(
-            (v if chance.random() < 0.8 else chance.choice([0, 1, 2, 8, 12])) << 4 * k for k, v in enumerate(held)
+            (v if chance.random() < 0.8 else chance.choice([0, 1, 2, 8, 12])) << 4 * k
+            for k, v in enumerate(held)
         )
 
     def _written_modes(self) -> int:
@@ -426,7 +489,8 @@ class World:
             value = chance.getrandbits(16)
         else:
             value = sum(
-                (m if chance.random() < 0.7 else chance.choice([0, 1, 2])) << 2 * k for k, m in enumerate(self.modes)
+                (m if chance.random() < 0.7 else chance.choice([0, 1, 2])) << 2 * k
+                for k, m in enumerate(self.modes)
             )
         return value + (1 << 16) if chance.random() < 0.05 else value
 

@@ -66,7 +66,12 @@ def digits(lines: Sequence[str]) -> bytes:
 
 def shortened(lines: Sequence[str]) -> bytes:
     """The lines of a dump: a full stop is eight zeros, a star eight words of zeros."""
-    return "".join(f"{line}\n" for line in lines).replace(".", ZERO_WORD).replace("*", EIGHT_ZERO_WORDS).encode()
+    return (
+        "".join(f"{line}\n" for line in lines)
+        .replace(".", ZERO_WORD)
+        .replace("*", EIGHT_ZERO_WORDS)
+        .encode()
+    )
 
 
 def trace_lines(lines: Sequence[str]) -> bytes:
@@ -82,7 +87,9 @@ def text_of(command: Command, lines: Sequence[str]) -> bytes:
         return digits(lines)
     if command.line.startswith("dump"):
         return shortened(lines)
-    return trace_lines(lines) if command.line.startswith(("run", "solo", "phases")) else plain(lines)
+    return (
+        trace_lines(lines) if command.line.startswith(("run", "solo", "phases")) else plain(lines)
+    )
 
 
 def begun(head: str, line: str, files: dict[str, bytes]) -> Command:
@@ -224,4 +231,6 @@ def call_walks() -> Iterator[Row]:
             image = read_image(command.files[setup.image], setup.size)
             routines = read_routines(command.files[question.other_file], setup.size)
             graph = Graph(image.word, Part(question.start, question.end), routines, setup.loops)
-            yield walked(graph, setup.slots, question.thread, command.text.decode().strip(), case.name)
+            yield walked(
+                graph, setup.slots, question.thread, command.text.decode().strip(), case.name
+            )

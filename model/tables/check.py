@@ -134,7 +134,9 @@ def tally(found: Iterable[Row], show: Callable[[str], None]) -> Tally:
 def main() -> int:
     parser = argparse.ArgumentParser(description=__doc__)
     parser.add_argument(
-        "tables", nargs="*", help="the names of the tables to verify, as they are printed (left out: all)"
+        "tables",
+        nargs="*",
+        help="the names of the tables to verify, as they are printed (left out: all)",
     )
     options = parser.parse_args()
     tables, differing = all_tables(), 0

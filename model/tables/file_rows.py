@@ -7,7 +7,17 @@ from model.executables import ElfFault, read_elf
 from model.graphs import RoutinesFault, read_routines
 from model.images import Image, ImageFault, read_image
 from model.bits import nibbles_word
-from model.setups import HARD, LARGE, SMALL, SOFT, THREADS, Setup, SetupFault, ThreadSetup, read_setup
+from model.setups import (
+    HARD,
+    LARGE,
+    SMALL,
+    SOFT,
+    THREADS,
+    Setup,
+    SetupFault,
+    ThreadSetup,
+    read_setup,
+)
 from model.tables.forms import number, repeated, table, unescaped, words_in_runs
 from model.tables.text_rows import segments
 
@@ -44,7 +54,9 @@ def elf_answer(call: str) -> str:
         image = read_elf(repeated(call))
     except ElfFault as fault:
         return f"{fault.code} {fault.code.name} {fault.offset}"
-    return "image" + "".join(f" {address:08x}:{words_in_runs(data)}" for address, data in image.segments)
+    return "image" + "".join(
+        f" {address:08x}:{words_in_runs(data)}" for address, data in image.segments
+    )
 
 
 def routines_answer(call: str) -> str:
@@ -93,7 +105,9 @@ def read_setup_answer(data: bytes) -> str:
 
 def setup_of_words() -> Setup:
     """The setup that `unit_rows` makes of its registers' words."""
-    threads = [ThreadSetup(HARD if k < 4 else SOFT, 2048 * k, confined=k < 4) for k in range(THREADS)]
+    threads = [
+        ThreadSetup(HARD if k < 4 else SOFT, 2048 * k, confined=k < 4) for k in range(THREADS)
+    ]
     return Setup(1, 10, "-", 0xEEEE3210, nibbles_word(range(8)), 0xC8883210, threads)
 
 

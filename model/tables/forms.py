@@ -41,7 +41,9 @@ def unescaped(text: str) -> bytes:
 
 def escaped(data: bytes) -> str:
     """The text that `unescaped` reads as some bytes."""
-    named = {letter[0]: f"\\{key.decode()}" for key, letter in LETTERS.items()} | {ord("\\"): "\\\\"}
+    named = {letter[0]: f"\\{key.decode()}" for key, letter in LETTERS.items()} | {
+        ord("\\"): "\\\\"
+    }
     return "".join(named.get(b) or (chr(b) if 32 <= b < 127 else f"\\x{b:02x}") for b in data)
 
 

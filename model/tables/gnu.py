@@ -21,7 +21,8 @@ def fence_text(word: int) -> str | None:
     if word == FENCE_I:
         return "fence.i"
     sets = [
-        "".join(letter for k, letter in enumerate(FENCE_SETS) if bits(word, high - k, high - k)) for high in (27, 23)
+        "".join(letter for k, letter in enumerate(FENCE_SETS) if bits(word, high - k, high - k))
+        for high in (27, 23)
     ]
     has_others = bits(word, 31, 28) or bits(word, 19, 7)
     return None if has_others or not all(sets) else f"fence {sets[0]},{sets[1]}"
@@ -104,11 +105,15 @@ def source_rows() -> Iterator[Row]:
         lines.append((address, near(address, line[2])))
         wanted.append((line[2], bytes.fromhex(image[2])))
     with tempfile.TemporaryDirectory() as folder:
-        made = sections(linked(Path(folder), sectioned([text for _, text in lines]), ARCH, script(lines)))
+        made = sections(
+            linked(Path(folder), sectioned([text for _, text in lines]), ARCH, script(lines))
+        )
     yield from compared(wanted, made)
 
 
 def script(lines: Sequence[tuple[int, str]]) -> str:
     """A linker script with the section of each line at its address."""
-    sections = "".join(f".r{k} {address:#x} : {{ *(.r{k}) }}\n" for k, (address, _) in enumerate(lines))
+    sections = "".join(
+        f".r{k} {address:#x} : {{ *(.r{k}) }}\n" for k, (address, _) in enumerate(lines)
+    )
     return f"SECTIONS {{ {sections} }}"

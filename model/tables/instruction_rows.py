@@ -21,7 +21,9 @@ NAMES = {"off": "imm", "amount": "imm", "word": "imm", "src": "rs1"}
 
 def shown(x: Ins) -> str:
     """An instruction as the tables show it."""
-    fields = [f"{name}: {getattr(x, NAMES.get(name, name))}" for name in SHOWN.get(x.kind, "").split()]
+    fields = [
+        f"{name}: {getattr(x, NAMES.get(name, name))}" for name in SHOWN.get(x.kind, "").split()
+    ]
     return f"{x.kind} {{ {', '.join(fields)} }}" if fields else x.kind
 
 

@@ -108,7 +108,9 @@ def results() -> list[Result]:
     found = []
     for answer, text in rows("results.txt"):
         word, pc, a, b, content = numbers(text.removeprefix("run "))
-        found.append(Result(text, word, pc, a, b, content, tuple(int(each, 16) for each in answer.split())))
+        found.append(
+            Result(text, word, pc, a, b, content, tuple(int(each, 16) for each in answer.split()))
+        )
     return found
 
 
@@ -129,7 +131,9 @@ def field(found: Sequence[Result]) -> bytes:
     addresses = stub_addresses(found)
     words = {row.pc: row.word for row in found}
     for address in addresses:
-        words[address], words[address + 4] = u_word(LUI, SCRATCH, REACHED >> 12), i_word(JALR, 0, 0, SCRATCH, 0)
+        words[address], words[address + 4] = u_word(LUI, SCRATCH, REACHED >> 12), i_word(
+            JALR, 0, 0, SCRATCH, 0
+        )
     data = bytearray()
     for address in range(FIELD, FIELD_END, 4):
         jump = j_word(LINK, addresses[(address - FIELD) // REACH] - address)

@@ -32,21 +32,32 @@ def shown(setup: Setup, image: Image, ports: Ports, cycles: int) -> str:
 def program_setup(slots: int, modes: int, second: int) -> Setup:
     """Thread 0 has a permit, thread 1 an entry of its own, and the data regions are thread 0's."""
     threads = [
-        ThreadSetup(bits(modes, 2 * k + 1, 2 * k), second if k == 1 else 0, permit=k == 0) for k in range(THREADS)
+        ThreadSetup(bits(modes, 2 * k + 1, 2 * k), second if k == 1 else 0, permit=k == 0)
+        for k in range(THREADS)
     ]
     return Setup(1, 10, "-", slots, ALL_READ_ONLY, 0, threads)
 
 
 def machine_answer() -> str:
     """The trace of the machine that `unit_rows` makes field by field."""
-    code = {0: 0x00100293, 4: 0x00002303, 8: 0x00000463, 12: 0x00000013, 16: 0x00200393, 20: 0x0000006F}
+    code = {
+        0: 0x00100293,
+        4: 0x00002303,
+        8: 0x00000463,
+        12: 0x00000013,
+        16: 0x00200393,
+        20: 0x0000006F,
+    }
     threads = [ThreadSetup(0, confined=True)] + [ThreadSetup()] * 7
     setup = Setup(1, 10, "-", 0xFFFFFFF0, ALL_READ_ONLY, 0xCCCCC810, threads)
     return f"{shown(setup, image_of_words(code), [None] * THREADS, 11)}Ok(()) 11"
 
 
 def pairs(text: str) -> list[tuple[int, int]]:
-    return [(number(first), number(second)) for first, _, second in (pair.partition(":") for pair in text.split())]
+    return [
+        (number(first), number(second))
+        for first, _, second in (pair.partition(":") for pair in text.split())
+    ]
 
 
 def program_answer(call: str) -> str:
@@ -58,7 +69,9 @@ def program_answer(call: str) -> str:
     port = HeldPort()
     for at, value in pairs(fed):
         port.feed(at, value)
-    setup, image = program_setup(slots, modes, second), image_of_words({4 * k: word for k, word in pairs(code)})
+    setup, image = program_setup(slots, modes, second), image_of_words(
+        {4 * k: word for k, word in pairs(code)}
+    )
     ports: Ports = [port] + [None] * 7
     latch = World(setup, image, ports).run_to(cycles - RETIRES + 1).latches[0]
     return f"{shown(setup, image, ports, cycles)}latch {latch:x}"
@@ -69,7 +82,9 @@ def solo_answer(call: str) -> str:
     setup_name, image_name, thread, cycles = call.split()
     setup = read_setup(table(setup_name).read_bytes())
     image = read_image(table(image_name).read_bytes(), setup.size)
-    return f"{len(trace(solo(View(setup, image, [None] * THREADS, int(thread)), int(cycles))))} bytes"
+    return (
+        f"{len(trace(solo(View(setup, image, [None] * THREADS, int(thread)), int(cycles))))} bytes"
+    )
 
 
 # ---------------------------------------------------------------- bounds
@@ -78,7 +93,10 @@ def solo_answer(call: str) -> str:
 def loops_of(text: str) -> list[Loop]:
     """Loops of hexadecimal ends and decimal bounds, three numbers each."""
     words = text.split()
-    return [Loop(int(h, 16), int(l, 16), int(b)) for h, l, b in zip(words[::3], words[1::3], words[2::3])]
+    return [
+        Loop(int(h, 16), int(l, 16), int(b))
+        for h, l, b in zip(words[::3], words[1::3], words[2::3])
+    ]
 
 
 class Question:

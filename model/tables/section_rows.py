@@ -25,9 +25,7 @@ def bound_call(section: Section) -> str:
     first, end = section.part.first, section.part.end
     loops = " ".join(f"{loop.head:x} {loop.last:x} {loop.bound}" for loop in section.loops)
     words = " ".join(f"{word:08x}" for word in section.words())
-    return (
-        f"{section.slots:x} {section.thread} {first:x} {end:x}\t{loops}\t{FPX1:x} 1 {first:x} {end - first:x} {words}"
-    )
+    return f"{section.slots:x} {section.thread} {first:x} {end:x}\t{loops}\t{FPX1:x} 1 {first:x} {end - first:x} {words}"
 
 
 def bounds(seed: int) -> Iterator[str]:
@@ -56,9 +54,15 @@ def calls(seed: int) -> Iterator[str]:
     chance = random.Random(seed)
     for number in range(CALLING):
         drawn = Calling(chance, chance.choice(ROUNDS))
-        routines = "".join(f"{routine.first:08x} {routine.end - 4:08x}\n" for routine in drawn.routines)
+        routines = "".join(
+            f"{routine.first:08x} {routine.end - 4:08x}\n" for routine in drawn.routines
+        )
         image = Image([(0, bytes_of(drawn.code))]).written()
-        files = {"a.toml": setup(chance.choice(FRAMES), drawn.loops), "a.fpx": image, "r.txt": routines.encode()}
+        files = {
+            "a.toml": setup(chance.choice(FRAMES), drawn.loops),
+            "a.fpx": image,
+            "r.txt": routines.encode(),
+        }
         yield f"=== {number}"
         yield " ".join(HELD)
         yield from file_lines(files)

@@ -66,8 +66,14 @@ def tokens_answer(call: str) -> str:
     try:
         found = tokens(unescaped(call))
     except LexFault as fault:
-        return fault.code.name if fault.code == LexNo.TooMany else f"{fault.code.name} {{ column: {fault.column} }}"
-    return "".join(f"{token.kind.value} {token.start}..{token.end} {token.value};" for token in found)
+        return (
+            fault.code.name
+            if fault.code == LexNo.TooMany
+            else f"{fault.code.name} {{ column: {fault.column} }}"
+        )
+    return "".join(
+        f"{token.kind.value} {token.start}..{token.end} {token.value};" for token in found
+    )
 
 
 def asked(question: Question) -> str:

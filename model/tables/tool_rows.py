@@ -22,7 +22,12 @@ EACH = 200
 """The number of rows of each instruction."""
 
 EDGES = sorted(
-    {word(s * (1 << k) + d) for k in (0, 1, 2, 5, 7, 8, 15, 16, 20, 31) for s in (1, -1) for d in (-1, 0, 1)}
+    {
+        word(s * (1 << k) + d)
+        for k in (0, 1, 2, 5, 7, 8, 15, 16, 20, 31)
+        for s in (1, -1)
+        for d in (-1, 0, 1)
+    }
 )
 """Operands at the ends of ranges and next to them."""
 
@@ -85,11 +90,17 @@ def words_of(texts: list[str], arch: str) -> list[int]:
 def decoded(seed: int) -> Iterator[str]:
     """The words of the text of instructions; and words of other extensions, which are none here."""
     chance = random.Random(seed)
-    drawn = [draw(chance) for draw in (drawn_op(*op) for op in OPS) for _ in range(EACH)] + list(WITHOUT_FIELDS)
+    drawn = [draw(chance) for draw in (drawn_op(*op) for op in OPS) for _ in range(EACH)] + list(
+        WITHOUT_FIELDS
+    )
     texts = [text for x in drawn if (text := gnu.text_of(x)) is not None]
     for x, made in zip(drawn, words_of(texts, gnu.ARCH)):
         yield f"{made:08x} {shown(x)}\tdecode {made:#010x}"
-    others = [form.format(**{k: f"x{register(chance)}" for k in "dab"}) for form in OTHERS for _ in range(10)]
+    others = [
+        form.format(**{k: f"x{register(chance)}" for k in "dab"})
+        for form in OTHERS
+        for _ in range(10)
+    ]
     for made in words_of(others, OTHER_ARCH):
         yield f"{made:08x} {shown(Ins('Illegal', imm=made))}\tdecode {made:#010x}"
 
@@ -118,7 +129,13 @@ def limits(name: str) -> tuple[int, int]:
 def target(chance: random.Random, name: str, at: int) -> int:
     """An address that a jump at another reaches."""
     reach = 1 << 12 if name in BRANCH_TYPE or name in ("beqz", "bnez") else JAL_REACH
-    return word(at + 4 * chance.choice([-reach // 4, -1, 1, reach // 4 - 1, chance.randrange(-reach // 4, reach // 4)]))
+    return word(
+        at
+        + 4
+        * chance.choice(
+            [-reach // 4, -1, 1, reach // 4 - 1, chance.randrange(-reach // 4, reach // 4)]
+        )
+    )
 
 
 def operand(chance: random.Random, kind: str, name: str, at: int) -> str:
@@ -172,7 +189,9 @@ class Runs:
         self.free, self.taken = addresses, set(addresses)
 
     def value(self) -> int:
-        return self.chance.choice(EDGES) if self.chance.random() < 0.5 else self.chance.getrandbits(32)
+        return (
+            self.chance.choice(EDGES) if self.chance.random() < 0.5 else self.chance.getrandbits(32)
+        )
 
     def result(self, kind: str, op: str) -> qemu.Result:
         """A row, with the model's answer."""
@@ -186,7 +205,9 @@ class Runs:
             x, a = self._jump(kind, op, pc, x.imm, a)
         elif kind in ("Load", "Store"):
             size = (LOAD_SIZE | STORE_SIZE)[op]
-            content, a = self.value(), word(qemu.MEMORY + size * self.chance.randrange(0x1000 // size) - x.imm)
+            content, a = self.value(), word(
+                qemu.MEMORY + size * self.chance.randrange(0x1000 // size) - x.imm
+            )
         a, b = a if x.rs1 else 0, b if x.rs2 else 0
         answer = tuple(int(each, 16) for each in run(x, pc, a, b, content).split())
         text = f"run {encode(x):#010x} {pc:#x} {a:#x} {b:#x} {content:#x}"

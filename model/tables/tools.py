@@ -30,7 +30,9 @@ def command(tool: str) -> str:
 
 def call(folder: Path, tool: str, *words: str) -> bytes:
     """Calls a tool in a folder and returns its output."""
-    return subprocess.run([command(tool), *words], cwd=folder, check=True, capture_output=True).stdout
+    return subprocess.run(
+        [command(tool), *words], cwd=folder, check=True, capture_output=True
+    ).stdout
 
 
 def assembled(folder: Path, source: str, arch: str) -> str:
@@ -65,4 +67,8 @@ def sections(data: bytes) -> dict[str, bytes]:
     size, count, names = struct.unpack_from("<HHH", data, 46)
     headers = [struct.unpack_from("<10I", data, start + size * k) for k in range(count)]
     texts = data[headers[names][4] :]
-    return {texts[h[0] :].split(b"\0", 1)[0].decode(): data[h[4] : h[4] + h[5]] for h in headers if h[1] == 1}
+    return {
+        texts[h[0] :].split(b"\0", 1)[0].decode(): data[h[4] : h[4] + h[5]]
+        for h in headers
+        if h[1] == 1
+    }

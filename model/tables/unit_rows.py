@@ -6,7 +6,18 @@ from collections.abc import Callable
 from model.graphs import Graph, Part
 from model.images import read_image
 from model.bits import nibble
-from model.registers import DREGIONS, MODES, PORT, SLOTS, Regions, frame, is_allowed_word, mode, pick, turn
+from model.registers import (
+    DREGIONS,
+    MODES,
+    PORT,
+    SLOTS,
+    Regions,
+    frame,
+    is_allowed_word,
+    mode,
+    pick,
+    turn,
+)
 from model.setups import NO_SLOT, SMALL, SOFT_SLOT, THREADS, Loop
 from model.tables.forms import numbers, truth
 
@@ -41,7 +52,11 @@ def picks_answer(slots: int, modes: int, sleep: int) -> str:
 
 
 def regions_answer(word: int) -> str:
-    return f"{word:x}" if is_allowed_word(DREGIONS, word) else f"BadRegion {{ index: {first_bad(DREGIONS, word)} }}"
+    return (
+        f"{word:x}"
+        if is_allowed_word(DREGIONS, word)
+        else f"BadRegion {{ index: {first_bad(DREGIONS, word)} }}"
+    )
 
 
 def access_answer(size: int, thread: int, confined: int, address: int, width: int) -> str:

@@ -91,7 +91,9 @@ class Drawn:
     def stays_hard(self, number: int) -> bool:
         """Whether a thread is confined, and hard, asleep or not, in each setting."""
         modes = (mode(setting.modes, number) for setting in self.settings)
-        return self.setup.threads[number].confined and all(each in (HARD, HARD_ASLEEP) for each in modes)
+        return self.setup.threads[number].confined and all(
+            each in (HARD, HARD_ASLEEP) for each in modes
+        )
 
     def issues(self, number: int) -> bool:
         return any(event.thread == number for event in self.world.retired(self.cycles))
@@ -117,7 +119,9 @@ def setting_case(seed: int) -> Iterator[str]:
     """The settings of a run in which slots or modes are written and no regions, and the traces of the confined threads
     that stay hard and issue; nothing of other seeds."""
     drawn = Drawn(seed, HELD)
-    threads = [number for number in range(THREADS) if drawn.stays_hard(number) and drawn.issues(number)]
+    threads = [
+        number for number in range(THREADS) if drawn.stays_hard(number) and drawn.issues(number)
+    ]
     if not threads or len(drawn.settings) == 1 or drawn.writes_regions():
         return
     yield from drawn.head()

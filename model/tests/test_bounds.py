@@ -64,10 +64,19 @@ def test_a_call() -> None:
         'i_regions = ["T0", "T0", "T0", "T0", "T0", "T0", "T0", "T0"]\n'
         'd_regions = ["T0", "T0", "T0", "T0", "T0", "T0", "T0", "T0"]\n[[thread]]\nid = 0\nmode = "hard"\nentry = 0\n'
     )
-    code = [jal(1, 0x100), addi(5, 5, 1), jal(1, 0xF8)] + [addi(0, 0, 0)] * 61 + [addi(7, 7, 1), jalr(0, 1, 0)]
+    code = (
+        [jal(1, 0x100), addi(5, 5, 1), jal(1, 0xF8)]
+        + [addi(0, 0, 0)] * 61
+        + [addi(7, 7, 1), jalr(0, 1, 0)]
+    )
     data = b"".join(encode(x).to_bytes(4, "little") for x in code)
     image = b"FPX1" + (1).to_bytes(4, "little") + bytes(4) + len(data).to_bytes(4, "little") + data
-    files = {"a.toml": setup.encode(), "a.fpx": image, "r": b"00000100 00000104\n", "s": b"00000100 00000100\n"}
+    files = {
+        "a.toml": setup.encode(),
+        "a.fpx": image,
+        "r": b"00000100 00000104\n",
+        "s": b"00000100 00000100\n",
+    }
     words = "calls a.toml --thread 0 --from 0 --to 12 --routines".split()
     assert answer([*words, "r"], files) == (0, b"bound 15\n")
     assert answer([*words, "s"], files) == (6, b"refused bound 10 Escape 00000100\n")

@@ -43,11 +43,19 @@ def test_faults_of_setups() -> None:
     assert fault_of(drive + b" " * (262_145 - len(drive))) == (1, "-")
     assert fault_of(drive.replace(b"period = 10", b"period = 9223372036854775808")) == (2, "-")
     assert fault_of(drive.replace(b"period = 10", b"period = 9223372036854775807")) == (6, "period")
-    assert fault_of(drive.replace(b"confined = true", b"confined = true\npermit = true", 1)) == (10, "thread[0].permit")
+    assert fault_of(drive.replace(b"confined = true", b"confined = true\npermit = true", 1)) == (
+        10,
+        "thread[0].permit",
+    )
 
 
 def test_faults_of_sources() -> None:
-    for source, line, code in ((b"a:\na:\n", 2, 6), (b"j far\n", 1, 7), (b"nop nop\n", 1, 4), (b"\xff", 1, 2)):
+    for source, line, code in (
+        (b"a:\na:\n", 2, 6),
+        (b"j far\n", 1, 7),
+        (b"nop nop\n", 1, 4),
+        (b"\xff", 1, 2),
+    ):
         with pytest.raises(SourceFault) as caught:
             assemble(source)
         assert (caught.value.line, caught.value.code) == (line, code)
@@ -58,7 +66,9 @@ def test_a_put_that_fails_stops_the_run() -> None:
     setup = files["drive.toml"].replace(b"examples/", b"")
     sink = MemSink({1: 3})
     words = "run drive.toml --thread 0 --cycles 77".split()
-    status = flexpret(words, MemFiles({**files, "drive.toml": setup}), sink, [HeldPort() for _ in range(8)])
+    status = flexpret(
+        words, MemFiles({**files, "drive.toml": setup}), sink, [HeldPort() for _ in range(8)]
+    )
     assert (status, len(sink.puts)) == (Status.WRITE, 2)
     assert files["drive.trace"].startswith(sink.bytes)
 

@@ -44,7 +44,9 @@ def test_a_hard_thread_of_a_quiet_run_is_alone(seed: int) -> None:
         if thread.mode == HARD and thread.confined:
             assert solo(view, run.cycles) == run.events(number)
         elif thread.mode == HARD:
-            assert solo_with_words(view, run.cycles, run.words_of_others(number)) == run.events(number)
+            assert solo_with_words(view, run.cycles, run.words_of_others(number)) == run.events(
+                number
+            )
 
 
 @pytest.mark.parametrize("seed", SEEDS)
@@ -54,7 +56,9 @@ def test_a_confined_thread_over_settings(seed: int) -> None:
         return
     for number in range(THREADS):
         modes = [mode(setting.modes, number) for setting in run.settings]
-        if run.setup.threads[number].confined and all(each in (HARD, HARD_ASLEEP) for each in modes):
+        if run.setup.threads[number].confined and all(
+            each in (HARD, HARD_ASLEEP) for each in modes
+        ):
             assert phased(run.view(number), run.settings, run.cycles) == run.events(number)
 
 

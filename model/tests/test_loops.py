@@ -11,6 +11,7 @@ import pytest
 from model.drawn.worlds import World as Drawn
 from model.effects import Event
 from model.images import read_image
+
 from model.loops import (
     Motor, Plant, PortStore, TablePlant, last_word, loop_world, port_stores, sampled, solo_in_loop,
 )  # fmt: skip
@@ -54,7 +55,13 @@ def test_a_store_is_known_four_cycles_later() -> None:
 
 def test_a_sampled_plant_shows_its_word_until_the_next_sample() -> None:
     plant = sampled(lambda words: sum(words), 8, 9)
-    assert [plant([PortStore(4, 101)], cycle) for cycle in (0, 7, 8, 15, 16)] == [0, 0, 101, 101, 202]
+    assert [plant([PortStore(4, 101)], cycle) for cycle in (0, 7, 8, 15, 16)] == [
+        0,
+        0,
+        101,
+        101,
+        202,
+    ]
 
 
 TOP = Path(__file__).resolve().parents[2]

@@ -22,6 +22,9 @@ def test_stored_worlds_are_those_of_their_seeds() -> None:
 
 
 def test_stored_settings_are_those_of_their_seeds() -> None:
-    stored = {case.partition("\n")[0]: case for case in table("settings.txt").read_text().split("\n=== ")[1:]}
+    stored = {
+        case.partition("\n")[0]: case
+        for case in table("settings.txt").read_text().split("\n=== ")[1:]
+    }
     for seed in list(stored)[:4]:
         assert "\n".join(setting_case(int(seed))).removeprefix("=== ") == stored[seed]

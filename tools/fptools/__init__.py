@@ -41,12 +41,19 @@ def has(*modules: str) -> bool:
 
 def require(*modules: str) -> None:
     """If a module isn't installed, lets Debian's Python run the tool. If that one lacks it too, ends the call with one line and NOT_STARTED. The
-    line has all packages of `PACKAGES` that are missing. In a virtual environment pip installs them."""
+    line has all packages of `PACKAGES` that are missing. In a virtual environment pip installs them.
+    """
     if has(*modules):
         return
     try_debian(*modules)
-    missing = [packages for module, packages in PACKAGES.items() if not has(module) and (module in modules or module != "jinja2")]
-    names, debian = ", ".join(name for name, _ in missing), " ".join(package for _, package in missing)
+    missing = [
+        packages
+        for module, packages in PACKAGES.items()
+        if not has(module) and (module in modules or module != "jinja2")
+    ]
+    names, debian = ", ".join(name for name, _ in missing), " ".join(
+        package for _, package in missing
+    )
     pip = f"; here: pip install {names.replace(',', '')}" if sys.prefix != sys.base_prefix else ""
     end(f"lacks {names}{pip}; for /usr/bin/python3 of Debian: apt-get install {debian}")
 
@@ -58,7 +65,12 @@ def try_debian(*modules: str) -> None:
     flags = sys.orig_argv[1 : len(sys.orig_argv) - len(sys.argv)]
     if TRIED or not is_tool or not os.access(DEBIAN, os.X_OK):
         return
-    if subprocess.run([DEBIAN, *flags, "-c", IS_NEW, *modules], capture_output=True, check=False).returncode == 0:
+    if (
+        subprocess.run(
+            [DEBIAN, *flags, "-c", IS_NEW, *modules], capture_output=True, check=False
+        ).returncode
+        == 0
+    ):
         os.environ["FLEXPRET_TRIED_DEBIAN"] = "1"
         os.execv(DEBIAN, [DEBIAN, *flags, *sys.argv])
 
@@ -66,7 +78,10 @@ def try_debian(*modules: str) -> None:
 def end(fault: str) -> NoReturn:
     """Ends the call with a line about the Python that runs it."""
     version = ".".join(map(str, sys.version_info[:3]))
-    print(f"{os.path.basename(sys.argv[0])}: {sys.executable} (Python {version}) {fault}", file=sys.stderr)
+    print(
+        f"{os.path.basename(sys.argv[0])}: {sys.executable} (Python {version}) {fault}",
+        file=sys.stderr,
+    )
     sys.exit(NOT_STARTED)
 
 

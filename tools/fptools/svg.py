@@ -7,7 +7,9 @@ from html import escape
 def element(name: str, *inside: str, **attributes: str | float) -> str:
     """An element with its attributes in their order: `class_` is `class`, `stroke_width` is `stroke-width`.
     Inside are elements and escaped texts."""
-    words = "".join(f' {key.rstrip("_").replace("_", "-")}="{_value(it)}"' for key, it in attributes.items())
+    words = "".join(
+        f' {key.rstrip("_").replace("_", "-")}="{_value(it)}"' for key, it in attributes.items()
+    )
     return f"<{name}{words}>{''.join(inside)}</{name}>" if inside else f"<{name}{words}/>"
 
 

@@ -62,10 +62,16 @@ def test_what_is_public_stands_in_the_list() -> None:
     assert module.items == {
         "Place": ["struct Place: derive(Clone, Copy)", "    table: u8", "    .."],
         "No": ["enum No", "    TooLong = 1", "    Fault { code: u8, place: Place }"],
-        "Port": ["trait Port: Drop", "    ghost word_at: { Self → ℕ }", "    fn read(&mut self, at: u64) -> u32"],
+        "Port": [
+            "trait Port: Drop",
+            "    ghost word_at: { Self → ℕ }",
+            "    fn read(&mut self, at: u64) -> u32",
+        ],
         "MOST": ["const MOST: usize = 64 * 18"],
     }
-    assert module.impls == {"Place": [["impl Place", "    fn row(&self, thread: u8) -> Option<u32>"]]}
+    assert module.impls == {
+        "Place": [["impl Place", "    fn row(&self, thread: u8) -> Option<u32>"]]
+    }
 
 
 def test_a_changed_name_is_told(capsys: pytest.CaptureFixture[str]) -> None:

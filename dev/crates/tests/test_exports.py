@@ -23,7 +23,9 @@ ghost use Rattle.low.specs.Limit.{{limit}};
 SMALL = "pub fn small() -> u8\n    ensures few { result ≤ limit }\n{\n    0\n}"
 
 
-def tree(top: Path, item: str, lib: str = "", specs: dict[str, str] | None = None, name: str = "mid") -> Path:
+def tree(
+    top: Path, item: str, lib: str = "", specs: dict[str, str] | None = None, name: str = "mid"
+) -> Path:
     """A repository of two crates, of which the upper one has an item in a private module that its root names."""
     crates = {
         "low": LOW,
@@ -57,7 +59,9 @@ def test_names_the_line_that_is_missing(tmp_path: Path) -> None:
     )
 
 
-@pytest.mark.parametrize("lib", ["pub use Rattle.low.specs.Limit\n", "pub use Rattle.low.specs.Limit as Most\n"])
+@pytest.mark.parametrize(
+    "lib", ["pub use Rattle.low.specs.Limit\n", "pub use Rattle.low.specs.Limit as Most\n"]
+)
 def test_a_definition_that_is_handed_on_is_not_missing(tmp_path: Path, lib: str) -> None:
     assert ran(tree(tmp_path, SMALL, lib)).returncode == 0
 
@@ -71,7 +75,13 @@ def test_a_definition_that_is_handed_on_is_not_missing(tmp_path: Path, lib: str)
         "pub fn small() -> u8\n    ensures few { result ≤ 7 }\n{\n    let limit = 0;\n    limit\n}",
         "impl Hidden {\n    pub fn few(self) -> u8\n        ensures few { result ≤ limit }\n    {\n        0\n    }\n}",
     ],
-    ids=["private", "of the crate", "not named by the root", "in a body", "of a type that isn't named"],
+    ids=[
+        "private",
+        "of the crate",
+        "not named by the root",
+        "in a body",
+        "of a type that isn't named",
+    ],
 )
 def test_what_no_caller_reaches_may_cite_anything(tmp_path: Path, item: str) -> None:
     assert ran(tree(tmp_path, item)).returncode == 0
@@ -91,15 +101,30 @@ def test_methods_of_a_public_type_count(tmp_path: Path, item: str) -> None:
 
 
 def test_a_door_hands_on_what_its_definitions_use(tmp_path: Path) -> None:
-    specs = {"specs/Own.antt": "use Rattle.low.specs.Limit.{limit}\nabbrev pub twice : ℕ\ntwice = limit + limit\n"}
+    specs = {
+        "specs/Own.antt": "use Rattle.low.specs.Limit.{limit}\nabbrev pub twice : ℕ\ntwice = limit + limit\n"
+    }
     found = ran(tree(tmp_path, "pub struct Part;", "pub mod Own\n", specs, "flexpret_top"))
     assert found.returncode == 1
     assert "crates/flexpret_top/specs/Own.antt:1: a definition cites `limit`" in found.stdout
-    assert ran(tree(tmp_path, "pub struct Part;", "pub mod Own\npub use Rattle.low.specs.Limit\n", specs, "flexpret_top")).returncode == 0
+    assert (
+        ran(
+            tree(
+                tmp_path,
+                "pub struct Part;",
+                "pub mod Own\npub use Rattle.low.specs.Limit\n",
+                specs,
+                "flexpret_top",
+            )
+        ).returncode
+        == 0
+    )
 
 
 def test_names_that_stand_one_on_a_line_are_read(tmp_path: Path) -> None:
-    names = "use Rattle.low.specs.Limit.{\n  limit,\n  least,\n}\nabbrev pub twice : ℕ\ntwice = limit\n"
+    names = (
+        "use Rattle.low.specs.Limit.{\n  limit,\n  least,\n}\nabbrev pub twice : ℕ\ntwice = limit\n"
+    )
     specs = {"specs/Own.antt": f"-- twice the limit\n{names}"}
     found = ran(tree(tmp_path, "pub struct Part;", "pub mod Own\n", specs, "flexpret_top"))
     assert found.returncode == 1

@@ -12,7 +12,13 @@ STORED = (TOP / "examples/slots.konata").read_text()
 
 def said_of(log: str) -> str:
     ran = subprocess.run(
-        [sys.executable, "-m", "dev.fuzz.kanata", "-"], cwd=TOP, input=log, capture_output=True, text=True, check=False, timeout=30
+        [sys.executable, "-m", "dev.fuzz.kanata", "-"],
+        cwd=TOP,
+        input=log,
+        capture_output=True,
+        text=True,
+        check=False,
+        timeout=30,
     )
     assert (ran.returncode, ran.stderr) == (1 if ran.stdout else 0, "")
     return ran.stdout

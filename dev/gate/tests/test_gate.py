@@ -27,8 +27,18 @@ TESTS = Part("tests", ["x"], tests="tools/fptools")
         (SCRIPT, 0, "as shown: a\nas shown: b\n", "2 passed, 0 failed"),
         (SCRIPT, 1, "as shown: a\ndiffers: b\n", "1 passed, 1 failed"),
         (SCRIPT, 1, "as shown: a\nkilled\n", "1 passed, 1 failed"),
-        (SCRIPT, 1, "a.txt: 10 compared, 2 not, 3 differ\nb: 5 compared, 0 differ\n", "12 passed, 3 failed"),
-        (SCRIPT, 0, "x: 97 calls at the edge of the program, 0 differences\n", "97 passed, 0 failed"),
+        (
+            SCRIPT,
+            1,
+            "a.txt: 10 compared, 2 not, 3 differ\nb: 5 compared, 0 differ\n",
+            "12 passed, 3 failed",
+        ),
+        (
+            SCRIPT,
+            0,
+            "x: 97 calls at the edge of the program, 0 differences\n",
+            "97 passed, 0 failed",
+        ),
         (TESTS, 0, "12 passed in 3.40s\n", "12 passed, 0 failed"),
         (TESTS, 0, "====== 12 passed, 1 warning in 3.40s ======\n", "12 passed, 0 failed"),
         (TESTS, 1, "2 failed, 12 passed, 1 skipped in 83.40s (0:01:23)\n", "12 passed, 2 failed"),
@@ -36,7 +46,12 @@ TESTS = Part("tests", ["x"], tests="tools/fptools")
         (TESTS, 1, "12 passed, 3 errors in 3.40s\n", "12 passed, 3 failed"),
         (TESTS, 2, "1 error in 3.40s\n", "0 passed, 1 failed"),
         (TESTS, 4, "no such file\n", "0 passed, 1 failed"),
-        (TESTS, 0, "SKIPPED [4] a.py:3: no x\n8 passed, 4 skipped in 1.00s\n", "8 passed, 0 failed, 4 skipped"),
+        (
+            TESTS,
+            0,
+            "SKIPPED [4] a.py:3: no x\n8 passed, 4 skipped in 1.00s\n",
+            "8 passed, 0 failed, 4 skipped",
+        ),
     ],
 )
 def test_the_tests_of_a_part_are_counted(part: Part, status: int, said: str, line: str) -> None:
@@ -45,7 +60,9 @@ def test_the_tests_of_a_part_are_counted(part: Part, status: int, said: str, lin
 
 def test_a_part_without_its_tool_is_skipped_by_name() -> None:
     place = Place(sys.executable, dict(os.environ), built=False)
-    _, found, _, _ = run_part(Part("p", ["false"], commands=["no-such-tool"], programs=False), place)
+    _, found, _, _ = run_part(
+        Part("p", ["false"], commands=["no-such-tool"], programs=False), place
+    )
     assert found.skipped == [(1, "p: no-such-tool is not installed")]
     _, found, _, _ = run_part(Part("p", ["false"]), place)
     assert found.skipped == [(1, "p: the programs are not built")]
@@ -60,10 +77,15 @@ def test_tests_without_pytest_are_skipped_with_their_number(tmp_path: Path) -> N
     ((count, why),) = found.skipped
     assert count > 100
     assert "pytest is not installed" in why
-    assert "(Debian: python3-pytest python3-pyelftools python3-jsonschema python3-networkx python3-hypothesis)" in why
+    assert (
+        "(Debian: python3-pytest python3-pyelftools python3-jsonschema python3-networkx python3-hypothesis)"
+        in why
+    )
 
 
-def test_the_first_python_with_the_modules_is_taken(tmp_path: Path, monkeypatch: pytest.MonkeyPatch) -> None:
+def test_the_first_python_with_the_modules_is_taken(
+    tmp_path: Path, monkeypatch: pytest.MonkeyPatch
+) -> None:
     bare = tmp_path / "bare"
     bare.write_text("#!/bin/sh\nexit 1\n")
     bare.chmod(0o755)
@@ -90,7 +112,9 @@ def test_without_rt_the_other_parts_run(
     (tmp_path / "crates.txt").write_text("program:\n")
     monkeypatch.setattr(gate, "TOP", tmp_path)
     monkeypatch.setattr(gate, "PROGRAMS", {"PROGRAM": "program"})
-    monkeypatch.setattr(gate, "parts", lambda jobs: [Part("p", [sys.executable, "-c", ""], programs=False)])
+    monkeypatch.setattr(
+        gate, "parts", lambda jobs: [Part("p", [sys.executable, "-c", ""], programs=False)]
+    )
     monkeypatch.setattr(sys, "argv", ["test", "--no-install"])
     monkeypatch.setattr(gate, "RECORD", tmp_path / "record.json")
     assert gate.main() == 1
@@ -103,7 +127,9 @@ def test_without_rt_the_other_parts_run(
     assert last == "1 passed, 1 failed"
 
 
-def test_only_a_program_that_was_built_meanwhile_is_recorded(tmp_path: Path, monkeypatch: pytest.MonkeyPatch) -> None:
+def test_only_a_program_that_was_built_meanwhile_is_recorded(
+    tmp_path: Path, monkeypatch: pytest.MonkeyPatch
+) -> None:
     (tmp_path / "crates.txt").write_text("old:\nnew:\n")
     monkeypatch.setattr(gate, "TOP", tmp_path)
     monkeypatch.setattr(gate, "PROGRAMS", {"OLD": "old", "NEW": "new"})

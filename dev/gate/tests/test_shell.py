@@ -24,7 +24,11 @@ def scripts() -> list[str]:
 def test_shellcheck_finds_nothing(script: str) -> None:
     shellcheck = pinned("shellcheck", "shellcheck", SHELLCHECK)
     ran = subprocess.run(
-        [shellcheck, "-x", "-P", "SCRIPTDIR", script], cwd=TOP, capture_output=True, text=True, check=False
+        [shellcheck, "-x", "-P", "SCRIPTDIR", script],
+        cwd=TOP,
+        capture_output=True,
+        text=True,
+        check=False,
     )
     assert (ran.returncode, ran.stdout) == (0, "")
 

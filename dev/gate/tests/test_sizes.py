@@ -9,7 +9,11 @@ from pathlib import Path
 from fptools.testing.common import TOP
 
 MOST_LINES, MOST_LINES_OF_FUNCTION, MOST_PARAMETERS = 500, 40, 8
-FILES = [it for name in ("tools", "dev", "model", "examples", "rtl") for it in sorted((TOP / name).rglob("*.py"))]
+FILES = [
+    it
+    for name in ("tools", "dev", "model", "examples", "rtl")
+    for it in sorted((TOP / name).rglob("*.py"))
+]
 LONG = {"tools/fptools/visits/visits.py"}
 """Files that are longer."""
 
@@ -22,7 +26,9 @@ def functions(file: Path) -> Iterator[ast.FunctionDef]:
 
 
 def test_files_are_short() -> None:
-    found = {str(it.relative_to(TOP)) for it in FILES if len(it.read_text().splitlines()) > MOST_LINES}
+    found = {
+        str(it.relative_to(TOP)) for it in FILES if len(it.read_text().splitlines()) > MOST_LINES
+    }
     assert found == LONG
 
 
@@ -49,5 +55,11 @@ def test_each_script_of_dev_is_named() -> None:
                 named.setdefault(f"{folder}.{name}", set()).add(file)
     for script in sorted(it for form in ("py", "sh") for it in TOP.glob(f"dev/*/*.{form}")):
         module, form = f"dev.{script.parent.name}.{script.stem}", script.suffix
-        users = named.get(module, set()) | named.get(module + form, set()) | named.get(script.name, set())
-        assert users - {script} or script.stem == "__init__", f"nothing names {script.relative_to(TOP)}"
+        users = (
+            named.get(module, set())
+            | named.get(module + form, set())
+            | named.get(script.name, set())
+        )
+        assert (
+            users - {script} or script.stem == "__init__"
+        ), f"nothing names {script.relative_to(TOP)}"

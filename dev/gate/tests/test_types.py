@@ -16,7 +16,9 @@ MYPY, PYFLAKES = "1.0.1", "2.5.0"
 
 SCRIPTS = [
     str(it)
-    for it in sorted([*TOOLS.glob("fp_*"), *TOOLS.glob("*.py"), TOP / "rtl/simulate", TOP / "conftest.py"])
+    for it in sorted(
+        [*TOOLS.glob("fp_*"), *TOOLS.glob("*.py"), TOP / "rtl/simulate", TOP / "conftest.py"]
+    )
 ]
 EXAMPLES = [str(it) for it in sorted((TOP / "examples").glob("*/*.py"))]
 PARTS = {
@@ -44,8 +46,15 @@ def cache(tmp_path_factory: pytest.TempPathFactory) -> Path:
 
 @pytest.mark.parametrize("part", PARTS)
 def test_types_are_strict(part: str, cache: Path) -> None:
-    mypy = [pinned("mypy", "mypy", MYPY), "--strict", "--scripts-are-modules", f"--cache-dir={cache}"]
-    ran = subprocess.run([*mypy, *PARTS[part]], cwd=TOP, capture_output=True, text=True, check=False)
+    mypy = [
+        pinned("mypy", "mypy", MYPY),
+        "--strict",
+        "--scripts-are-modules",
+        f"--cache-dir={cache}",
+    ]
+    ran = subprocess.run(
+        [*mypy, *PARTS[part]], cwd=TOP, capture_output=True, text=True, check=False
+    )
     assert ran.returncode == 0, ran.stdout
 
 
@@ -59,6 +68,12 @@ def test_pyflakes_finds_nothing() -> None:
 
 def test_the_tools_do_without_the_model() -> None:
     """Only tests, what tests share, and the command that calls it import the model."""
-    files = [it for it in (TOOLS / "fptools").rglob("*.py") if not {"tests", "testing"} & set(it.parts)]
-    users = [it.name for it in files if re.search(r"^\s*(from|import) model\b", it.read_text(), re.MULTILINE)]
+    files = [
+        it for it in (TOOLS / "fptools").rglob("*.py") if not {"tests", "testing"} & set(it.parts)
+    ]
+    users = [
+        it.name
+        for it in files
+        if re.search(r"^\s*(from|import) model\b", it.read_text(), re.MULTILINE)
+    ]
     assert users == ["fp_model.py"]

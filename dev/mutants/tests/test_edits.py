@@ -19,7 +19,9 @@ MOVED = sorted(TOP.glob("dev/mutants/edits/*/*.edit"))
 def table() -> list[tuple[str, str]]:
     """The crate and the name of each mutant that docs/dev/TESTING.md lists."""
     text = (TOP / "docs/dev/TESTING.md").read_text()
-    rows = re.findall(r"^\| [^|]+ \| ([^|]+) \|$", text[text.index("| mutant | files |") :], re.MULTILINE)
+    rows = re.findall(
+        r"^\| [^|]+ \| ([^|]+) \|$", text[text.index("| mutant | files |") :], re.MULTILINE
+    )
     found = []
     for row in rows:
         for group in row.split(";"):
@@ -50,6 +52,12 @@ def test_no_edit_is_in_both_places() -> None:
 
 
 def test_an_unknown_crate_is_named() -> None:
-    ran = subprocess.run([sys.executable, "-m", "dev.mutants.edits", "nosuch"], cwd=TOP, capture_output=True, text=True, check=False)
+    ran = subprocess.run(
+        [sys.executable, "-m", "dev.mutants.edits", "nosuch"],
+        cwd=TOP,
+        capture_output=True,
+        text=True,
+        check=False,
+    )
     assert ran.returncode == 2
     assert "nosuch: no folder of dev/mutants/edits has this name" in ran.stderr

@@ -12,7 +12,6 @@ import pytest
 from fptools.testing.common import TOP
 
 
-
 def said(script: str, *arguments: object) -> tuple[int, str]:
     """The status of a script and what it writes, by the Python that runs the tests; the model answers in place of the program."""
     environment = {name: value for name, value in os.environ.items() if name != "FLEXPRET"}
@@ -53,17 +52,25 @@ def test_sentences_and_words_keep_their_limits() -> None:
 
 def test_a_long_sentence_is_reported(tmp_path: Path) -> None:
     page = tmp_path / "page.md"
-    page.write_text("# Page\n\nShort.\n\n" + " ".join(["word"] * 36) + ".\n\n    code " + "word " * 40 + "\n")
+    page.write_text(
+        "# Page\n\nShort.\n\n" + " ".join(["word"] * 36) + ".\n\n    code " + "word " * 40 + "\n"
+    )
     status, text = said("prose.py", page)
     assert status == 1 and "page.md:5: 36 words" in text and "mean sentence  18.5" in text
 
 
 def test_man_pages_and_helps_are_read(tmp_path: Path) -> None:
     man, tool = tmp_path / "it.1", tmp_path / "fp_it"
-    man.write_text(".TH IT 1\n.SH NAME\n" + "word " * 20 + "\n.B bold\n" + "word " * 20 + "\n.PP\nShort.\n")
-    tool.write_text('"""Short.\n\n' + "word " * 30 + '; more"""\nadd("x", help="' + "word " * 40 + '")\n')
+    man.write_text(
+        ".TH IT 1\n.SH NAME\n" + "word " * 20 + "\n.B bold\n" + "word " * 20 + "\n.PP\nShort.\n"
+    )
+    tool.write_text(
+        '"""Short.\n\n' + "word " * 30 + '; more"""\nadd("x", help="' + "word " * 40 + '")\n'
+    )
     status, text = said("prose.py", man, tool)
-    assert status == 1 and "it.1:3: 41 words" in text and "40 words" in text and "30 words" not in text
+    assert (
+        status == 1 and "it.1:3: 41 words" in text and "40 words" in text and "30 words" not in text
+    )
 
 
 def test_computed_helps_and_scripts_are_read(tmp_path: Path) -> None:
@@ -74,15 +81,28 @@ def test_computed_helps_and_scripts_are_read(tmp_path: Path) -> None:
         'add("a", help=what)\nadd("b", help=f"' + "word " * 40 + '{N}")\nadd("c", help=HELP)\n'
     )
     script.write_text(
-        "#!/usr/bin/env bash\ncat <<'END_OF_HELP'\n  --it  " + "word " * 37 + "\n  --more  an item of its own\nEND_OF_HELP\n"
+        "#!/usr/bin/env bash\ncat <<'END_OF_HELP'\n  --it  "
+        + "word " * 37
+        + "\n  --more  an item of its own\nEND_OF_HELP\n"
     )
     status, text = said("prose.py", "--longest", 9, tool, script)
-    assert status == 1 and "36 words: word" in text and "41 words: word" in text and "38 words: --it" in text
+    assert (
+        status == 1
+        and "36 words: word" in text
+        and "41 words: word" in text
+        and "38 words: --it" in text
+    )
     assert "the variable FLEXPRET names" in text
 
 
 @pytest.mark.parametrize(
-    "line", ["- item\n  goes on", "| a | b |\n|---|---|\n| one | two |", "1. first\n2. second", "`code` [link](x.md)"]
+    "line",
+    [
+        "- item\n  goes on",
+        "| a | b |\n|---|---|\n| one | two |",
+        "1. first\n2. second",
+        "`code` [link](x.md)",
+    ],
 )
 def test_other_text_is_no_long_sentence(tmp_path: Path, line: str) -> None:
     page = tmp_path / "page.md"
@@ -164,7 +184,9 @@ def test_definitions_and_their_files_are_in_the_crates() -> None:
         ("LIBRARY.md", "command_files/src/bound.rt", "command_files/src/bounds.rt", "bounds.rt: no such file"),
     ],
 )  # fmt: skip
-def test_another_definition_or_file_is_reported(tmp_path: Path, page: str, old: str, new: str, told: str) -> None:
+def test_another_definition_or_file_is_reported(
+    tmp_path: Path, page: str, old: str, new: str, told: str
+) -> None:
     copy = Path(shutil.copy(TOP / "docs/dev" / page, tmp_path))
     change(copy, old, new)
     status, text = said("doc_names.py", copy)

@@ -159,14 +159,21 @@ def keys_of(schema: dict[str, Any]) -> set[str]:
 @pytest.mark.parametrize(
     "heading, schema, more", [("## Setups", "setup", set()), ("## Budgets", "budgets", {"budget"})]
 )
-def test_the_keys_of_files_are_those_of_their_schema(heading: str, schema: str, more: set[str]) -> None:
+def test_the_keys_of_files_are_those_of_their_schema(
+    heading: str, schema: str, more: set[str]
+) -> None:
     rows = rows_under(TOP / "docs/FORMATS.md", heading)
     shown = {key for row in rows for key in re.findall(r"`(\w+)`", row)} | more
     assert shown == keys_of(json.loads((TOP / f"tools/{schema}.schema.json").read_text()))
 
 
 def test_each_tool_has_a_row() -> None:
-    shown = set(re.findall(r"`(\w+|install\.sh)`", " ".join(rows_under(TOP / "tools/README.md", "## Which tool for what"))))
+    shown = set(
+        re.findall(
+            r"`(\w+|install\.sh)`",
+            " ".join(rows_under(TOP / "tools/README.md", "## Which tool for what")),
+        )
+    )
     tools = {it.name for it in (TOP / "tools").glob("fp_*")} - {"fp_launch", "fp_model"}
     assert shown == tools | {"install.sh"}
 
@@ -174,8 +181,17 @@ def test_each_tool_has_a_row() -> None:
 def test_each_option_of_the_script_has_a_row() -> None:
     """What ./flexpret --help shows, but for the arguments of its commands."""
     text = (TOP / "flexpret").read_text().split("END_OF_HELP")[1]
-    options = set(re.findall(r"--\w+", text)) - {"--thread", "--cycles", "--trace", "--from", "--to", "--routines"}
-    assert options == set(re.findall(r"--\w+", " ".join(rows_under(TOP / "docs/COMMANDS.md", "## The script"))))
+    options = set(re.findall(r"--\w+", text)) - {
+        "--thread",
+        "--cycles",
+        "--trace",
+        "--from",
+        "--to",
+        "--routines",
+    }
+    assert options == set(
+        re.findall(r"--\w+", " ".join(rows_under(TOP / "docs/COMMANDS.md", "## The script")))
+    )
 
 
 ONE_WORD = {
@@ -190,12 +206,19 @@ ONE_WORD = {
 def words_of(page: Path) -> str:
     """The text of a page without code and the targets of links. The glossary's row of the definitions' word is left out."""
     lines = page.read_text().splitlines()
-    shown = [it for it in lines if not it.startswith(("    ", "| execution, visit", "| held |", "<!--"))]
+    shown = [
+        it for it in lines if not it.startswith(("    ", "| execution, visit", "| held |", "<!--"))
+    ]
     return re.sub(r"`[^`]*`|\]\([^)]*\)", "]", " ".join(shown))
 
 
 def test_one_word_has_one_meaning() -> None:
-    pages = [TOP / "README.md", *(TOP / "docs").glob("*.md"), TOP / "rtl/README.md", TOP / "tools/README.md"]
+    pages = [
+        TOP / "README.md",
+        *(TOP / "docs").glob("*.md"),
+        TOP / "rtl/README.md",
+        TOP / "tools/README.md",
+    ]
     for page in pages + [*(TOP / "examples").rglob("README.md")]:
         for word, instead in ONE_WORD.items():
             found = re.search(word, words_of(page))

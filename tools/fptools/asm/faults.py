@@ -139,7 +139,10 @@ def _explain_token(line: int, text: bytes) -> Explanation:
         column = fault.column
         if fault.why is Lex.TOO_MANY:
             return Explanation(
-                line, f"more than {MOST_TOKENS} tokens in a line", column, hints=("write it as more lines",)
+                line,
+                f"more than {MOST_TOKENS} tokens in a line",
+                column,
+                hints=("write it as more lines",),
             )
         if fault.why is Lex.NUMBER:
             end = next(
@@ -170,7 +173,9 @@ def _explain_token(line: int, text: bytes) -> Explanation:
 def _explain_name(line: _Line, _: bytes) -> Explanation:
     name = line.name
     if name.lower() in OPERANDS:
-        return line.at(f"unknown mnemonic {name!r}", 0, f"mnemonics are in lower case: {usage(name.lower())}")
+        return line.at(
+            f"unknown mnemonic {name!r}", 0, f"mnemonics are in lower case: {usage(name.lower())}"
+        )
     if (
         len(line.rest) > 1
         and line.rest[1].kind == "NAME"
@@ -180,7 +185,9 @@ def _explain_name(line: _Line, _: bytes) -> Explanation:
         return line.at(f"unknown mnemonic {name!r}", 0, f"a label has a colon: {name}:")
     hint = ELSEWHERE.get(name.lower()) or near(name, list(OPERANDS))
     alone = f"a label has a colon: {name}:" if len(line.rest) == 1 and not hint else ""
-    return line.at(f"unknown {'directive' if name.startswith('.') else 'mnemonic'} {name!r}", 0, hint, alone)
+    return line.at(
+        f"unknown {'directive' if name.startswith('.') else 'mnemonic'} {name!r}", 0, hint, alone
+    )
 
 
 def _explain_operands(line: _Line, _: bytes) -> Explanation:
@@ -192,13 +199,12 @@ def _explain_operands(line: _Line, _: bytes) -> Explanation:
         line.operands()
     except Expected as fault:
         index = fault.at
-        found = (
-            f"{line.rest[index].text!r}"
-            if index < len(line.rest)
-            else "the end of the line"
-        )
+        found = f"{line.rest[index].text!r}" if index < len(line.rest) else "the end of the line"
         return line.at(
-            f"expected {fault.text}, found {found}", index, *fault.hints, f"the form is: {usage(line.name)}"
+            f"expected {fault.text}, found {found}",
+            index,
+            *fault.hints,
+            f"the form is: {usage(line.name)}",
         )
     raise ValueError("the line has no such fault")
 
@@ -233,8 +239,14 @@ def _explain_no_label(line: _Line, data: bytes) -> Explanation:
     for place in line.operands():
         label = place.label
         if label is not None and label not in names:
-            register = f"{label} is a register, and an address is expected here" if label in REGISTERS else ""
-            return line.at(f"no label {label!r}", place.first, register or near(label, names), end=place.end)
+            register = (
+                f"{label} is a register, and an address is expected here"
+                if label in REGISTERS
+                else ""
+            )
+            return line.at(
+                f"no label {label!r}", place.first, register or near(label, names), end=place.end
+            )
     raise ValueError("the line has no such fault")
 
 
@@ -327,7 +339,9 @@ def _addresses(line: _Line, data: bytes) -> tuple[list[int], dict[int, int]]:
 
 def _explain_outside(line: _Line, data: bytes) -> Explanation:
     addresses, _ = _addresses(line, data)
-    outside = next(at for at in addresses if not (at < SMALL or DATA_START <= at < DATA_START + SMALL))
+    outside = next(
+        at for at in addresses if not (at < SMALL or DATA_START <= at < DATA_START + SMALL)
+    )
     places = f"words lie from 0 to {SMALL - 4:#x} and from {DATA_START:#x} to {DATA_START + SMALL - 4:#x}"
     return line.at(
         f"the word at {outside:#x} is outside of the scratchpads",
@@ -341,7 +355,10 @@ def _explain_overlap(line: _Line, data: bytes) -> Explanation:
     addresses, owners = _addresses(line, data)
     taken = next(at for at in addresses if at in owners)
     found = line.at(
-        f"a word lies at {taken:#x} already", 0, ".org sets the address of what follows", end=len(line.rest)
+        f"a word lies at {taken:#x} already",
+        0,
+        ".org sets the address of what follows",
+        end=len(line.rest),
     )
     return replace(found, other=(owners[taken], "it is placed here first"))
 

@@ -70,7 +70,9 @@ class Line:
                 raise LineFault(SourceNo.Misaligned)
             return first // 4 if self.name == ".space" else 0
         if self.name == "li":
-            return len(_load_word(first, within(self.operands[1].number, -(1 << 31), LAST_WORD), True))
+            return len(
+                _load_word(first, within(self.operands[1].number, -(1 << 31), LAST_WORD), True)
+            )
         return {".word": len(self.operands), "la": 2}.get(self.name, 1)
 
     def addresses(self) -> list[int]:
@@ -99,7 +101,11 @@ class Line:
         return address_of(operand, labels)
 
     def _instruction(self, labels: dict[str, int]) -> int:
-        name, letters, _ = SHORT.get(self.name) or (self.name, " ".join(BY_NAME[self.name].operands), "")
+        name, letters, _ = SHORT.get(self.name) or (
+            self.name,
+            " ".join(BY_NAME[self.name].operands),
+            "",
+        )
         form, operands, values = BY_NAME[name], iter(self.operands), dict[str, int]()
         for letter in letters.split():
             if "=" in letter:

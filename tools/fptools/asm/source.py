@@ -30,7 +30,9 @@ class Source:
 
     @property
     def words(self) -> dict[int, int]:
-        return {at + 4 * index: word for _, at, words in self.placed for index, word in enumerate(words)}
+        return {
+            at + 4 * index: word for _, at, words in self.placed for index, word in enumerate(words)
+        }
 
 
 def read_source(path: Path) -> Source:
@@ -51,7 +53,8 @@ def listing(source: Source) -> Iterator[str]:
         first = f"{words[0]:08x}" if words else ""
         yield f"{number:>5} {address:<8} {first:<8}  {text}".rstrip()
         yield from (
-            f"{number:>5} {(at or 0) + 4 * index:08x} {word:08x}" for index, word in enumerate(words[1:], 1)
+            f"{number:>5} {(at or 0) + 4 * index:08x} {word:08x}"
+            for index, word in enumerate(words[1:], 1)
         )
     if source.labels:
         yield ""
@@ -87,7 +90,10 @@ def text_of(pc: int, bits: int, names: Mapping[int, str] | None = None) -> str:
     form = decode(bits)
     if form is None or (form.name.startswith("fence") and bits not in (FENCE, FENCE_I)):
         return _as_word(bits)
-    shown = {letter: f"x{get(letter, bits)}" if letter in "dst" else str(get(letter, bits)) for letter in form.operands}
+    shown = {
+        letter: f"x{get(letter, bits)}" if letter in "dst" else str(get(letter, bits))
+        for letter in form.operands
+    }
     if "c" in shown:
         shown["c"] = f"{get('c', bits):#05x}"
     if form.operands in ("stb", "dj"):
@@ -112,7 +118,9 @@ def disassembled(words: Mapping[int, int], names: Mapping[int, str]) -> Iterator
     """An image as a source: the assembler makes the same words of it. Targets without a name get one by
     their address."""
     code = {at: bits for at, bits in words.items() if at < LARGE}
-    targets = {to for at, bits in code.items() if (to := target_of(at, bits)) is not None and to in words}
+    targets = {
+        to for at, bits in code.items() if (to := target_of(at, bits)) is not None and to in words
+    }
     own = usable(names)
     called = {**{to: f"L_{to:08x}" for to in targets}, **own}
     location, zeros = 0, 0  # bytes of zeros that aren't written yet

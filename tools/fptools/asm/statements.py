@@ -155,7 +155,9 @@ class Reader:
             operand = READERS[kind](self)
         except Expected as fault:
             # If an operand doesn't begin as it should, the kind says more than its first token.
-            raise fault if self.at > first or fault.hints else Expected(first, KINDS[kind]) from None
+            raise fault if self.at > first or fault.hints else Expected(
+                first, KINDS[kind]
+            ) from None
         return replace(operand, first=first, end=self.at)
 
 

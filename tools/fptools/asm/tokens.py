@@ -6,7 +6,9 @@ from dataclasses import dataclass
 from enum import Enum, IntEnum
 
 MOST_TOKENS = 64
-TOKEN = re.compile(rb"(?P<NAME>[A-Za-z_.][\w.]*)|(?P<NUMBER>0x[0-9A-Fa-f]*|[0-9]+)|(?P<MARK>[,:()+-])", re.A)
+TOKEN = re.compile(
+    rb"(?P<NAME>[A-Za-z_.][\w.]*)|(?P<NUMBER>0x[0-9A-Fa-f]*|[0-9]+)|(?P<MARK>[,:()+-])", re.A
+)
 BLANK = re.compile(rb"[ \t]*")
 FIGURES = 10
 """The most figures of a number behind leading zeros."""
@@ -79,7 +81,12 @@ def _token_at(line: bytes, at: int) -> Token:
         figures = text.removeprefix("0x").lstrip("0")
         follows = TOKEN.match(line, end)
         is_run_in = follows is not None and follows.lastgroup == "NAME"
-        if text == "0x" or is_run_in or len(figures) > FIGURES or Token(kind, text, at, end).value >= 2**32:
+        if (
+            text == "0x"
+            or is_run_in
+            or len(figures) > FIGURES
+            or Token(kind, text, at, end).value >= 2**32
+        ):
             raise LexFault(Lex.NUMBER, at)
     return Token(kind, text, at, end)
 

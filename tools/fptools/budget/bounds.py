@@ -29,7 +29,9 @@ def called_functions(
     return sorted(reached.values())
 
 
-def _call_of(code: Mapping[int, int], functions: Sequence[Function], function: Function) -> int | None:
+def _call_of(
+    code: Mapping[int, int], functions: Sequence[Function], function: Function
+) -> int | None:
     """A word that calls a function, and lies in none that the function reaches."""
     reached = [function, *called_functions(code, functions, function.start, function.end)]
     words = (Word(pc, bits) for pc, bits in sorted(code.items()) if pc < DATA_START)
@@ -54,11 +56,18 @@ def _jump_into(
 
 
 def _ask_calls(
-    flexpret: Flexpret, setup: Path, thread: int, start: int, end: int, routines: Sequence[tuple[int, int]]
+    flexpret: Flexpret,
+    setup: Path,
+    thread: int,
+    start: int,
+    end: int,
+    routines: Sequence[tuple[int, int]],
 ) -> Answer:
     with tempfile.TemporaryDirectory() as folder:
         listed = Path(folder) / "routines"
-        listed.write_text("".join(f"{head:08x} {end - 4:08x}\n" for head, end in routines), encoding="ascii")
+        listed.write_text(
+            "".join(f"{head:08x} {end - 4:08x}\n" for head, end in routines), encoding="ascii"
+        )
         return flexpret.calls(setup, thread, start, end, listed)
 
 

@@ -41,12 +41,10 @@ HELP = {
     "Recursion": "its calls lead back to it: rewrite it as a loop",
     "Escape": "it leaves its function other than by `ret`: a tail call (-fno-optimize-sibling-calls), another "
     "function of the same code (-fno-ipa-icf), or a part of it elsewhere (-fno-reorder-blocks-and-partition)",
-    "NotHard": "the thread doesn't start hard and awake: its [[thread]] table has mode = \"hard\", and no thread without a table does",
+    "NotHard": 'the thread doesn\'t start hard and awake: its [[thread]] table has mode = "hard", and no thread without a table does',
     "NoSlot": "no slot is the thread's own",
 }
-LONG_CALL = (
-    "a call by AUIPC and JALR, which the linker didn't shorten, as of clang: compile by -S, or with gcc"
-)
+LONG_CALL = "a call by AUIPC and JALR, which the linker didn't shorten, as of clang: compile by -S, or with gcc"
 LESS_STACK = "less data or stack, or a larger region: docs/C.md#the-stack"
 KEEP = "FP_KEEP(value) before the mark at the end keeps it in"
 # The remedy for an exit of a section, and for one of a function.
@@ -208,7 +206,9 @@ class Judge:
     def _is_long_call(self, pc: int) -> bool:
         """Whether a word is the second of a call by AUIPC and JALR."""
         word, before = self._code.word(pc), self._code.word(pc - 4)
-        return word.opcode == OPCODE_JALR and before.opcode == OPCODE_AUIPC and before.rd == word.rs1
+        return (
+            word.opcode == OPCODE_JALR and before.opcode == OPCODE_AUIPC and before.rd == word.rs1
+        )
 
     def where(self, pc: int) -> str:
         """An address with its symbol and source line."""
@@ -244,7 +244,9 @@ class Judge:
                 raise Unknown(self._way(way, True))
         for routine in routines:
             if not routine.ends:
-                raise Unknown(f"{self.where(routine.start)}: a function that is called never returns")
+                raise Unknown(
+                    f"{self.where(routine.start)}: a function that is called never returns"
+                )
             wrong = wrong_return(routine, self._clobbered, self.image)
             if wrong is not None:
                 raise Unknown(
@@ -287,13 +289,13 @@ class Judge:
         start, name = asked.begin, f"T{asked.budget.thread}"
         if thread.whole.has(start):
             return
-        if asked.assumes(Assumption.REACHED, f"no direct jump or call of {name} leads to {start:#x}"):
+        if asked.assumes(
+            Assumption.REACHED, f"no direct jump or call of {name} leads to {start:#x}"
+        ):
             return
         text = f"{self.where(start)}: {name} doesn't get here from its entry {self.where(thread.entry)}"
         if thread.jumps_anywhere:
-            text += (
-                f" by direct jumps and calls; if it does by others: assume = [{Assumption.REACHED.value!r}]"
-            )
+            text += f" by direct jumps and calls; if it does by others: assume = [{Assumption.REACHED.value!r}]"
         raise Unknown(text + ": is it the right thread?")
 
     def _look_at_writes(self, asked: Asked) -> None:
@@ -315,7 +317,9 @@ class Judge:
         thread = self.thread(asked.budget.thread)
         entries = {it.entry for it in self.setup.threads}
         entries |= {it.start for it in self.program.functions} | set(thread.handlers(asked.begin))
-        entries |= {at for it in self._code.placed if (at := self._code.jump_target(it)) is not None}
+        entries |= {
+            at for it in self._code.placed if (at := self._code.jump_target(it)) is not None
+        }
         inference, exits = self._inference, asked.exits
         return inference.state(asked.parts, entries, exits, thread.jumps_anywhere, callers)
 
@@ -325,7 +329,11 @@ class Judge:
 
     def table_of(self, part: Section, loop: Loop) -> int | None:
         """The bound of the setup's table of a loop."""
-        own = (it for it in self.setup.loops if it.head == loop.head and loop.last <= it.last < part.end)
+        own = (
+            it
+            for it in self.setup.loops
+            if it.head == loop.head and loop.last <= it.last < part.end
+        )
         return next((it.bound for it in own), None)
 
     def look_around(self, asked: Asked) -> None:
@@ -351,14 +359,18 @@ class Judge:
             by = "the setup's table"
             self.assume_table(asked, stated)
         elif bound < stated.bound:
-            raise Unknown(f"{where}: {by}, which is bound = {stated.bound}; the setup's table has {bound}")
+            raise Unknown(
+                f"{where}: {by}, which is bound = {stated.bound}; the setup's table has {bound}"
+            )
         asked.loops.append(LoopFact(where, loop.head, loop.last, bound, by))
 
     def assume_table(self, asked: Asked, stated: StatedLoop) -> None:
         """A loop that neither code nor marks bound: its table is taken for granted, or the budget is unknown."""
         note = f"{self.where(stated.loop.head)}: only the setup's table bounds this loop ({stated.doubt})"
         if not asked.assumes(Assumption.LOOP_TABLES, note):
-            raise Unknown(f"{note}: {stated.advice}, or assume = [{Assumption.LOOP_TABLES.value!r}]")
+            raise Unknown(
+                f"{note}: {stated.advice}, or assume = [{Assumption.LOOP_TABLES.value!r}]"
+            )
 
     def _look_at_traps(self, asked: Asked, thread: ThreadCode) -> None:
         """No bound counts a trap handler, so a trap may not come back."""
@@ -367,7 +379,9 @@ class Judge:
         words = [word for part in asked.parts for word in part.reached.values()]
         if expiry is None and not any(word.may_trap for word in words):
             return
-        ways = sorted(thread.comes_back(asked.section, asked.begin), key=lambda way: not way.is_meant)
+        ways = sorted(
+            thread.comes_back(asked.section, asked.begin), key=lambda way: not way.is_meant
+        )
         if not ways:
             if expiry:
                 asked.notes.append(f"{armed}; the bound ends where its moment expires")
@@ -376,7 +390,9 @@ class Judge:
         if not ways[0].is_meant:
             asked.notes.append(f"nothing sets mtvec: it is of executions without a trap ({note})")
         elif not asked.assumes(Assumption.NO_TRAPS, f"it is of executions without a trap ({note})"):
-            helps = f"if executions without a trap are meant: assume = [{Assumption.NO_TRAPS.value!r}]"
+            helps = (
+                f"if executions without a trap are meant: assume = [{Assumption.NO_TRAPS.value!r}]"
+            )
             raise Unknown(f"{note}: no bound counts a trap handler; {helps}")
 
     def _look_at_moved_work(self, asked: Asked, thread: ThreadCode) -> None:
@@ -405,13 +421,17 @@ class Judge:
         if isinstance(value, str) and not value[:1].isdigit():
             return value
         at, functions = self._address(value), {it.name for it in self.program.functions}
-        return next((name for pc, name in self.program.symbols if pc == at and name not in functions), None)
+        return next(
+            (name for pc, name in self.program.symbols if pc == at and name not in functions), None
+        )
 
     def _look_at_sources(self, asked: Asked) -> None:
         """Lines and comments are of the sources that the executable was built from."""
         note = self.other_source
         if note and not asked.assumes(Assumption.SAME_SOURCES, note):
-            raise Unknown(f"{note}: build it again by `make`, or assume = [{Assumption.SAME_SOURCES.value!r}]")
+            raise Unknown(
+                f"{note}: build it again by `make`, or assume = [{Assumption.SAME_SOURCES.value!r}]"
+            )
 
     def _look_at_stack(self, asked: Asked) -> None:
         """The thread's stack fits: a lost return address ends every bound. Where that isn't known, code that loads none holds
@@ -421,7 +441,9 @@ class Judge:
             return
         stack = asked.stack = self.stacks.of(table)
         if stack.verdict is Verdict.HOLDS:
-            is_noted = NO_OTHER_TRAP in stack.note and Assumption.NO_TRAPS not in asked.budget.assume
+            is_noted = (
+                NO_OTHER_TRAP in stack.note and Assumption.NO_TRAPS not in asked.budget.assume
+            )
             asked.notes += [f"the stack: {stack.note}"] * is_noted
             return
         if stack.verdict is Verdict.OVER:
@@ -449,4 +471,6 @@ class Judge:
             listed = Path(folder) / "routines"
             lines = [f"{it.start:08x} {it.end - 4:08x}\n" for it in asked.parts[1:]]
             listed.write_text("".join(lines), encoding="ascii")
-            return self.flexpret.calls(self.setup.path, budget.thread, section.start, section.end, listed)
+            return self.flexpret.calls(
+                self.setup.path, budget.thread, section.start, section.end, listed
+            )

@@ -98,7 +98,9 @@ class Result:
     executions: int | None = None  # how many a run had; None without a run
     longest: int | None = None  # the cycles of the longest of them
     stack: Stack | None = None  # of the thread; None where the budget is unknown for another reason
-    path: PathFacts | None = None  # that costs the bound; None where it isn't asked for, or there is no bound
+    path: PathFacts | None = (
+        None  # that costs the bound; None where it isn't asked for, or there is no bound
+    )
     # Of a period: its loop's waits, each by the calls that lead to it, the outermost first, and its address.
     waits: tuple[tuple[int, ...], ...] = ()
     is_broken: bool = False  # whether a run broke a claim of its loops
@@ -110,7 +112,11 @@ class Result:
     @property
     def slack(self) -> int | None:
         """The cycles of the budget that the bound leaves; below 0 where it is over."""
-        return None if self.bound is None or self.budget.cycles is None else self.budget.cycles - self.bound
+        return (
+            None
+            if self.bound is None or self.budget.cycles is None
+            else self.budget.cycles - self.bound
+        )
 
     @property
     def word(self) -> str:

@@ -50,14 +50,18 @@ class Names:
         function = self._named(name)
         call = self._call_of(function, budget.thread)
         if call is not None:
-            return self.section(replace(budget, start=call, end=call + 4, calls=True), None, function)
+            return self.section(
+                replace(budget, start=call, end=call + 4, calls=True), None, function
+            )
         at = self._free_word(function, budget.thread)
         if at is None:
             text = f"{name}: nothing calls it, and no word of the image is free for a call"
             return Result(budget, Verdict.UNKNOWN, text)
         return self.section(replace(budget, start=at, end=at + 4, calls=True), at, function)
 
-    def section(self, budget: Budget, put: int | None = None, function: Function | None = None) -> Result:
+    def section(
+        self, budget: Budget, put: int | None = None, function: Function | None = None
+    ) -> Result:
         """The bound of a section, by the setup with tables of its loops: of a call of a function, if that is given, which
         is put at `put`, or there."""
         image, program, calls = dict(self.image), self.program, {}
@@ -71,7 +75,14 @@ class Names:
         values: Values = {**self.setup.values, "image": str(written)}
         setup, is_of_function = replace(self.setup, values=values), function is not None
         judge = Judge(
-            self.flexpret, setup, image, program, self.sources, calls, is_of_function, self.has_paths
+            self.flexpret,
+            setup,
+            image,
+            program,
+            self.sources,
+            calls,
+            is_of_function,
+            self.has_paths,
         )
         try:
             values["loop"] = self._tables(judge, budget)
@@ -86,7 +97,9 @@ class Names:
         """A table for each loop: by the code and the marks, else that of the setup, if the budget takes it for granted."""
         asked = judge.asked(budget)
         judge.look_at_code(asked)
-        tables: list[dict[str, int]] = list(self.setup.values.get("loop", [])) if self.keeps_tables else []
+        tables: list[dict[str, int]] = (
+            list(self.setup.values.get("loop", [])) if self.keeps_tables else []
+        )
         missing = []
         for part, stated in judge.stated_loops(asked):
             if self.keeps_tables and judge.table_of(part, stated.loop) is not None:
@@ -112,7 +125,9 @@ class Names:
             raise Unknown(f"{where}: {stated.doubt}: {stated.advice}")
         table = judge.table_of(part, stated.loop)
         if table is None and Assumption.LOOP_TABLES in asked.budget.assume:
-            raise Unknown(f"{where}: neither marks, nor code, nor the setup bound this loop ({stated.doubt})")
+            raise Unknown(
+                f"{where}: neither marks, nor code, nor the setup bound this loop ({stated.doubt})"
+            )
         if table is None:
             raise Unknown(f"{where}: nothing bounds this loop ({stated.doubt}): {stated.advice}")
         judge.assume_table(asked, stated)
@@ -154,7 +169,9 @@ class Names:
         return next(free, None)
 
 
-def look_at_name(program: Program, setup: Setup, thread: int | None, option: str, text: str) -> None:
+def look_at_name(
+    program: Program, setup: Setup, thread: int | None, option: str, text: str
+) -> None:
     """Refuses a name that several addresses have: it says which threads may fetch them, and how to
     choose one."""
     name, _, rest = text.partition("+")
@@ -183,7 +200,10 @@ def toml_of(values: Values) -> str:
     lines = [f"{key} = {json.dumps(value)}" for key, value in plain.items() if value != []]
     for name in values.keys() - plain.keys():
         for table in values[name]:
-            lines += [f"[[{name}]]", *(f"{key} = {json.dumps(value)}" for key, value in table.items())]
+            lines += [
+                f"[[{name}]]",
+                *(f"{key} = {json.dumps(value)}" for key, value in table.items()),
+            ]
     return "\n".join(lines) + "\n"
 
 

@@ -44,7 +44,9 @@ def _case(
     suite: ElementTree.Element, group: str, name: str, kind: str | None, text: str
 ) -> ElementTree.Element:
     """Adds a case, with a fault of a kind, if it has one."""
-    case = ElementTree.SubElement(suite, "testcase", {"classname": group, "name": without_controls(name)})
+    case = ElementTree.SubElement(
+        suite, "testcase", {"classname": group, "name": without_controls(name)}
+    )
     if kind:
         ElementTree.SubElement(case, kind, message=without_controls(text))
     return case
@@ -52,7 +54,12 @@ def _case(
 
 def _add_numbers(case: ElementTree.Element, result: Result) -> None:
     """Adds the bound, the budget and what it leaves, in cycles, and what is taken for granted."""
-    numbers = {"bound": result.bound, "budget": result.budget.cycles, "slack": result.slack, "ns": result.ns}
+    numbers = {
+        "bound": result.bound,
+        "budget": result.budget.cycles,
+        "slack": result.slack,
+        "ns": result.ns,
+    }
     numbers |= {"executions": result.executions, "longest": result.longest}
     if result.stack:
         numbers |= {"stack": result.stack.bytes, "room": result.stack.room}

@@ -8,7 +8,14 @@ from fptools.budget.files import Budget, Result, Verdict
 from fptools.visits.claims import broken_text, marks_for
 from fptools.files.elf import Program, ProgramError
 from fptools.flow.inference import UNSEEN
-from fptools.visits.observed import Kind, Observation, doubt_of, question_of, run_and_observe, silence_of
+from fptools.visits.observed import (
+    Kind,
+    Observation,
+    doubt_of,
+    question_of,
+    run_and_observe,
+    silence_of,
+)
 from fptools.visits.text import Text, silence_text
 from fptools.period.runs import PeriodRuns
 from fptools.program.calls import Flexpret
@@ -54,16 +61,24 @@ class Runs:
         found = [Compared(periods.get(at, it)) for at, it in enumerate(results)]
         for thread in sorted({it.budget.thread for it in results}):
             own = [
-                at for at, it in enumerate(results) if it.budget.thread == thread and watched[at] is not None
+                at
+                for at, it in enumerate(results)
+                if it.budget.thread == thread and watched[at] is not None
             ]
             if own:
-                observation = self._observed(thread, [it for at in own if (it := watched[at])], results)
+                observation = self._observed(
+                    thread, [it for at in own if (it := watched[at])], results
+                )
                 # Functions come last in an observation, and here all are of one kind.
                 for at, seen in zip(own, observation.executions):
-                    found[at] = Compared(self._with_run(results[at], observation, seen), observation, seen)
+                    found[at] = Compared(
+                        self._with_run(results[at], observation, seen), observation, seen
+                    )
         return found
 
-    def _observed(self, thread: int, watched: Sequence[Watched], results: Sequence[Result]) -> Observation:
+    def _observed(
+        self, thread: int, watched: Sequence[Watched], results: Sequence[Result]
+    ) -> Observation:
         marks = marks_for(self.program, self.image)
         question = question_of(self.setup, thread, watched, self.image, marks)
         sections = (it for it in results if self.is_of_names or it.budget.period is None)
@@ -83,7 +98,9 @@ class Runs:
         try:
             if self.is_of_functions:
                 start = self.program.address(budget.name)
-                function = Watched(budget.name, start, start + 4, bound=result.bound, budget=budget.cycles)
+                function = Watched(
+                    budget.name, start, start + 4, bound=result.bound, budget=budget.cycles
+                )
                 return replace(function, is_function=True)
             start, end, *exits = map(self._address, (budget.start, budget.end, *budget.exits))
         except ProgramError:
@@ -93,7 +110,9 @@ class Runs:
         functions = self.program.functions if budget.calls else []
         parts = walk_all(self.image, start, end, functions)
         routines = tuple((it.start, it.end) for it in parts[1:])
-        return Watched(budget.name, start, end, routines, frozenset(exits), result.bound, budget.cycles)
+        return Watched(
+            budget.name, start, end, routines, frozenset(exits), result.bound, budget.cycles
+        )
 
     def _address(self, value: int | str) -> int:
         return value if isinstance(value, int) else self.program.address(value)
@@ -111,13 +130,20 @@ class Runs:
             text += f", from cycle {slowest[1]} of a run; {f'{why}; ' if why else ''}{result.text}"
             return replace(result, verdict=Verdict.OVER, text=text)
         broken = self._broken(observation, seen)
-        if broken is None and slowest is not None and most is None and slowest[0] > (result.bound or 0):
+        if (
+            broken is None
+            and slowest is not None
+            and most is None
+            and slowest[0] > (result.bound or 0)
+        ):
             broken = f"an execution{_kind_of(seen, slowest)} takes {slowest[0]} cycles, from cycle {slowest[1]} of a run"
         if broken is not None or doubt is not None:
             text = "; ".join(it for it in (why, broken, result.text) if it)
             return replace(result, verdict=Verdict.UNKNOWN, text=text)
         if not seen.count or slowest is None:
-            return replace(result, text=f"{result.text}; no execution in {self.cycles} cycles", executions=0)
+            return replace(
+                result, text=f"{result.text}; no execution in {self.cycles} cycles", executions=0
+            )
         text = f"{result.text}; the longest of {seen.count} executions takes {slowest[0]}"
         silent = silence_of(seen, observation.question.shown_to)
         return replace(result, text=text + (f"; {silence_text(silent)}" if silent else ""))
@@ -135,11 +161,7 @@ class Runs:
             for mark in (marks.all if marks else [])
             if is_of_all or any(start <= mark.at < end for start, end in parts)
         }
-        return [
-            broken_text(it)
-            for it in observation.claims
-            if it.is_broken and it.claim in own
-        ]
+        return [broken_text(it) for it in observation.claims if it.is_broken and it.claim in own]
 
     def _has_unknown(self, budget: Budget, watched: Watched) -> bool:
         """Whether a section, or what it calls, is left for code that isn't looked at."""
@@ -155,7 +177,12 @@ class Runs:
         for it in observation.breaks:
             head = int(it.what.split()[0], 16) if it.kind is Kind.TABLE else 0
             is_own = self.is_of_functions or any(start <= head < end for start, end in parts)
-            if it.kind is Kind.TABLE and is_own or it.kind is Kind.BOUND and it.what == watched.name:
+            if (
+                it.kind is Kind.TABLE
+                and is_own
+                or it.kind is Kind.BOUND
+                and it.what == watched.name
+            ):
                 return text.broken(observation, it).split(maxsplit=1)[1]
         return None
 

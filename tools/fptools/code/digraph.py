@@ -115,7 +115,9 @@ class Dominators(Generic[N]):
         self._last = {node: at for at, node in enumerate(order)}
         self._first: dict[N, int] = {}
         for node in order:
-            self._first[node] = min((self._first[it] for it in below.get(node, ())), default=self._last[node])
+            self._first[node] = min(
+                (self._first[it] for it in below.get(node, ())), default=self._last[node]
+            )
 
     def has(self, above: N, below: N) -> bool:
         """Whether each path to `below` passes `above`, which it does to itself."""

@@ -212,9 +212,7 @@ def _range_of(
     if word is None or word.flow is not Flow.NEXT or not depth:
         return ANY_NUMBER
     registers = before[word.pc].registers
-    one, other = (
-        _range_of(part, before, registers[at], depth - 1) for at in (word.rs1, word.rs2)
-    )
+    one, other = (_range_of(part, before, registers[at], depth - 1) for at in (word.rs1, word.rs2))
     return range_of(word, one, other).plus(value.offset)
 
 

@@ -11,7 +11,14 @@ from fptools.files.elf import ASSEMBLER, Line, Program
 from fptools.code.section import Section
 from fptools.files.sources import Sources
 from fptools.code.thread import Code, reach
-from fptools.isa.words import OPCODE_AUIPC, OPCODE_IMMEDIATE, OPCODE_LUI, OPCODE_REGISTERS, Flow, Word
+from fptools.isa.words import (
+    OPCODE_AUIPC,
+    OPCODE_IMMEDIATE,
+    OPCODE_LUI,
+    OPCODE_REGISTERS,
+    Flow,
+    Word,
+)
 
 
 class NotKnown(Exception):
@@ -34,7 +41,12 @@ class Marks:
 
 
 def moved_word(
-    section: Section, code: Code, program: Program, sources: Sources, entry: int, names: tuple[str, str]
+    section: Section,
+    code: Code,
+    program: Program,
+    sources: Sources,
+    entry: int,
+    names: tuple[str, str],
 ) -> int | None:
     """The first word outside of a section that was compiled from a line between its marks, which are known by names.
     Outside is between its end and its next execution; of a section that isn't executed again, also the code before it,
@@ -51,7 +63,9 @@ def moved_word(
         return None
     moved = [word.pc for word in work if any(map(marks.are_around, program.lines_of(word.pc)))]
     if not moved and not program.knows_functions:
-        raise NotKnown("which functions were inlined isn't known by this form of DWARF: -gdwarf-4 gives another")
+        raise NotKnown(
+            "which functions were inlined isn't known by this form of DWARF: -gdwarf-4 gives another"
+        )
     if not moved:
         _look_at_lines(section, program, work)
     return moved[0] if moved else None
@@ -70,7 +84,9 @@ def _look_at_lines(section: Section, program: Program, work: list[Word]) -> None
                 raise NotKnown(f"{where} is outside of it, and comes of no line")
 
 
-def _marks(section: Section, program: Program, sources: Sources, names: tuple[str, str]) -> Marks | None:
+def _marks(
+    section: Section, program: Program, sources: Sources, names: tuple[str, str]
+) -> Marks | None:
     """The marks of a section; None where it was written in assembler, or ends at a function."""
     if not program.is_compiled or any(it.start == section.end for it in program.functions):
         return None
@@ -103,5 +119,9 @@ def _line_of_mark(program: Program, sources: Sources, name: str) -> Line:
 
 def _is_number(code: Code, word: Word) -> bool:
     """Whether a word only gives a register a number, by itself or with the straight code before it."""
-    is_plain = word.flow is Flow.NEXT and word.opcode in (OPCODE_LUI, OPCODE_AUIPC, OPCODE_IMMEDIATE)
+    is_plain = word.flow is Flow.NEXT and word.opcode in (
+        OPCODE_LUI,
+        OPCODE_AUIPC,
+        OPCODE_IMMEDIATE,
+    )
     return is_plain and code.value_at(word.next, word.rd) is not None

@@ -27,7 +27,8 @@ def wrong_return(
     function: Section, clobbered: Callable[[int], Collection[int]], words: Mapping[int, int]
 ) -> Word | None:
     """The first `ret` of a function that may go elsewhere. A function that it calls changes the registers that
-    `clobbered` gives; it is looked at by itself, so that it goes back and leaves the stack pointer."""
+    `clobbered` gives; it is looked at by itself, so that it goes back and leaves the stack pointer.
+    """
     first = unknown(function.start)
     before = {function.start: Frame(first)}
     ahead = [function.start]
@@ -57,11 +58,15 @@ def _joined(pc: int, one: Frame, other: Frame) -> Frame:
     return Frame(joined(pc, one.registers, other.registers), one.kept & other.kept)
 
 
-def _after(word: Word, frame: Frame, first: State, clobbered: Callable[[int], Collection[int]]) -> Frame:
+def _after(
+    word: Word, frame: Frame, first: State, clobbered: Callable[[int], Collection[int]]
+) -> Frame:
     registers, stack = frame.registers, first[STACK_POINTER].origin
     if word.flow is Flow.CALL and word.target is not None:
         gone = ({*clobbered(word.target)} | {word.rd}) - {0, STACK_POINTER}
-        changed = (Value((word.pc + 1, at), 0) if at in gone else it for at, it in enumerate(registers))
+        changed = (
+            Value((word.pc + 1, at), 0) if at in gone else it for at, it in enumerate(registers)
+        )
         return replace(frame, registers=tuple(changed))
     base = registers[word.rs1]
     is_in_frame = base.origin == stack
@@ -74,7 +79,9 @@ def _after(word: Word, frame: Frame, first: State, clobbered: Callable[[int], Co
     if word.opcode == OPCODE_LOAD and word.funct3 == LOAD_WORD and is_in_frame and word.rd:
         if base.offset + word.immediate in frame.kept:
             value = first[RETURN_ADDRESS]
-            return replace(frame, registers=(*registers[: word.rd], value, *registers[word.rd + 1 :]))
+            return replace(
+                frame, registers=(*registers[: word.rd], value, *registers[word.rd + 1 :])
+            )
     return replace(frame, registers=after(word, registers))
 
 

@@ -98,7 +98,11 @@ class Section:
 
 
 def walk(
-    words: Mapping[int, int], start: int, end: int, routines: Collection[int] = (), is_function: bool = False
+    words: Mapping[int, int],
+    start: int,
+    end: int,
+    routines: Collection[int] = (),
+    is_function: bool = False,
 ) -> Section:
     """Goes through a section or a function. A call of one of the routines by x1, by their heads, comes back to the next
     word; a `ret` is what leaves a function."""
@@ -157,7 +161,13 @@ def _loops(section: Section) -> list[Loop]:
         body = _body(graph, head, natural[head])
         exits = {word for word in body if word in leaves or not set(graph[word]) <= body}
         loops.append(
-            Loop(head, tuple(sorted(every)), frozenset(body), frozenset(exits), every == natural[head])
+            Loop(
+                head,
+                tuple(sorted(every)),
+                frozenset(body),
+                frozenset(exits),
+                every == natural[head],
+            )
         )
     return _with_inner(loops)
 

@@ -137,7 +137,9 @@ class Reach:
         return address in self.words
 
 
-def reach(code: Code, starts: Collection[int], stops: Collection[int] = (), into_calls: bool = True) -> Reach:
+def reach(
+    code: Code, starts: Collection[int], stops: Collection[int] = (), into_calls: bool = True
+) -> Reach:
     """What is reached from some addresses without going on from `stops`, into called functions or past them alone."""
     found = Reach()
     ahead = list(starts)
@@ -151,7 +153,11 @@ def reach(code: Code, starts: Collection[int], stops: Collection[int] = (), into
             found.pointers.append(word)
         is_call = word.flow is Flow.CALL or word.flow is Flow.INDIRECT and word.rd != 0
         # A trap handler may go on behind an ECALL or EBREAK.
-        if is_call or word.flow in (Flow.NEXT, Flow.BRANCH, Flow.WAIT) or word.bits in (ECALL, EBREAK):
+        if (
+            is_call
+            or word.flow in (Flow.NEXT, Flow.BRANCH, Flow.WAIT)
+            or word.bits in (ECALL, EBREAK)
+        ):
             ahead.append(word.next)
         if target is not None and (into_calls or not is_call) and word.bits != RETURN:
             ahead.append(target)
@@ -177,13 +183,19 @@ class ThreadCode:
         found = self._with_handlers({self.entry})
         sets = [word.pc for word in found.words.values() if word.writes_mtvec]
         unset = reach(self.code, [self.entry], sets).words.values()
-        return self._with_handlers({self.entry, 0}) if any(it.traps_by_intent for it in unset) else found
+        return (
+            self._with_handlers({self.entry, 0})
+            if any(it.traps_by_intent for it in unset)
+            else found
+        )
 
     def _with_handlers(self, starts: set[int]) -> Reach:
         """From some addresses, and from each one that a reached word writes into mtvec."""
         while True:
             found = reach(self.code, starts)
-            handlers = {at for word in found.words.values() if (at := self._handler(word)) is not None}
+            handlers = {
+                at for word in found.words.values() if (at := self._handler(word)) is not None
+            }
             if handlers <= starts:
                 return found
             starts |= handlers
@@ -204,7 +216,9 @@ class ThreadCode:
     def _jumps_from(self, found: Reach) -> bool:
         if found.pointers or any(word.bits == MRET for word in self.without_traps.words.values()):
             return True
-        return any(word.writes_mepc and not self.code.skips_a_word(word) for word in found.words.values())
+        return any(
+            word.writes_mepc and not self.code.skips_a_word(word) for word in found.words.values()
+        )
 
     @property
     def may_issue(self) -> list[Word]:
@@ -253,7 +267,9 @@ class ThreadCode:
     def _unknown_handlers(self) -> Iterator[WayBack]:
         for word in self.sets_mtvec:
             if self._handler(word) is None:
-                yield WayBack(word, "sets mtvec to an address that isn't known here, so a trap may come back")
+                yield WayBack(
+                    word, "sets mtvec to an address that isn't known here, so a trap may come back"
+                )
 
     def comes_back_to(self, words: Collection[int]) -> Iterator[WayBack]:
         """Why a trap may be followed by one of some words, by their addresses, wherever it is taken."""
@@ -290,7 +306,9 @@ def _ways_back(handler: int, own: Reach, called: Reach, is_meant: bool) -> Itera
         if word.bits == MRET:
             yield WayBack(word, "MRET goes on where a trap was")
     for word in called.pointers:
-        yield WayBack(word, f"the trap handler at {handler:#x} jumps to an address that isn't known here")
+        yield WayBack(
+            word, f"the trap handler at {handler:#x} jumps to an address that isn't known here"
+        )
     for word in own.words.values():
         if word.bits == RETURN:
             yield WayBack(word, f"the trap handler at {handler:#x} returns", is_meant)

@@ -69,7 +69,9 @@ def after(word: Word, state: State) -> State:
         return state
     value = _result(word, state)
     if value is None:
-        value = Value((word.pc + 1, register), 0)  # no address of a word, so it is the result of this one
+        value = Value(
+            (word.pc + 1, register), 0
+        )  # no address of a word, so it is the result of this one
     return (*state[:register], value, *state[register + 1 :])
 
 
@@ -94,7 +96,9 @@ def _combined(funct3: int, kind: int, one: Value, other: Value) -> Value | None:
     if one.origin is None and other.origin is None:
         return Value(None, signed(_computed(funct3, kind, one.offset, other.offset)))
     if funct3 == ADDI and other.origin is None:
-        return Value(one.origin, signed(one.offset + (-other.offset if kind == SUBTRACTS else other.offset)))
+        return Value(
+            one.origin, signed(one.offset + (-other.offset if kind == SUBTRACTS else other.offset))
+        )
     if funct3 == ADDI and kind == BASE and one.origin is None:
         return Value(other.origin, signed(one.offset + other.offset))
     return None
@@ -159,7 +163,9 @@ class Values:
         self.jumps = jumps
         self._clobbered = {} if clobbered is None else clobbered
         inside = self._inside(start)
-        entered = {pc for pc in inside if pc == start or pc in entries or self._is_entered(pc, inside)}
+        entered = {
+            pc for pc in inside if pc == start or pc in entries or self._is_entered(pc, inside)
+        }
         self.before: dict[int, State] = {pc: unknown(pc) for pc in entered}
         ahead = sorted(entered)
         if first is not None:
@@ -228,7 +234,9 @@ class Values:
         before = self._word(pc - 4)
         if before.pc not in inside and pc in self._next(before):
             return True
-        return any(at not in inside or self._word(at).flow is Flow.CALL for at in self.jumps.get(pc, ()))
+        return any(
+            at not in inside or self._word(at).flow is Flow.CALL for at in self.jumps.get(pc, ())
+        )
 
     def _edges(self, pc: int) -> Iterator[tuple[int, State]]:
         """The successors of a word, with the known values there."""
@@ -241,7 +249,8 @@ class Values:
             )
         elif word.flow is Flow.INDIRECT:
             state = tuple(
-                Value((pc + 1, register), 0) if register else value for register, value in enumerate(state)
+                Value((pc + 1, register), 0) if register else value
+                for register, value in enumerate(state)
             )
         else:
             state = after(word, state)

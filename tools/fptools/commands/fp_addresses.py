@@ -40,7 +40,9 @@ def look_at_image(program: Program, setup: Path) -> None:
         return
     other = program.other_word(image)
     if other:
-        raise ProgramError(f"the setup's image isn't made of {program.path}: other words at {other}")
+        raise ProgramError(
+            f"the setup's image isn't made of {program.path}: other words at {other}"
+        )
 
 
 def look_at_map(program: Program) -> None:
@@ -48,7 +50,10 @@ def look_at_map(program: Program) -> None:
     source = next((line.file for line in program.all_lines), None)
     path = program.path
     if path and source and source.is_file() and source.stat().st_mtime_ns > path.stat().st_mtime_ns:
-        print(f"{NAME}: {source.name} is newer than {path.name}: its labels may be elsewhere", file=sys.stderr)
+        print(
+            f"{NAME}: {source.name} is newer than {path.name}: its labels may be elsewhere",
+            file=sys.stderr,
+        )
 
 
 def main() -> int:

@@ -79,6 +79,7 @@ from pathlib import Path
 from typing import TYPE_CHECKING, Mapping, NoReturn, Sequence
 
 from fptools.commands.common import Parser, failed, new_parser
+
 from fptools.budget.files import (
     Assumption, Budget, PeriodOf, Result, Verdict, read_budgets,
 )  # fmt: skip
@@ -113,26 +114,46 @@ def add_limits(parser: Parser) -> None:
     most.add_argument("--cycles", type=int, metavar="N", help="the most cycles that it may take")
     most.add_argument("--ns", type=int, metavar="N", help="the most nanoseconds that it may take")
     words = [it.value for it in Assumption]
-    parser.add_argument("--assume", action="append", default=[], choices=words, metavar="WORDS", help=f"one of {words}")
+    parser.add_argument(
+        "--assume",
+        action="append",
+        default=[],
+        choices=words,
+        metavar="WORDS",
+        help=f"one of {words}",
+    )
 
 
 def parser_of() -> Parser:
     parser = new_parser(__doc__)
     add = parser.add_argument
-    parser.path("file", "the setup, whose image is sought as the program seeks it; with --setup the executable")
+    parser.path(
+        "file",
+        "the setup, whose image is sought as the program seeks it; with --setup the executable",
+    )
     add("budgets", type=Path, nargs="?", help="the budgets; with --setup only by --all, or alone")
     parser.path("--elf", "the executable that the image was made of, for names and functions")
     parser.path("--src", "where the sources are, if not where they were compiled", "DIR")
     parser.path("--setup", "the setup, for a bound from names alone")
     parser.thread("the thread that runs it")
     parser.many("--function", "NAME", "a function; may be given several times")
-    parser.flag("--period", "the period of each loop that waits, from the moment of a wait to the issue of the next one; "
-        "with --function of that function's loop; --ns is what lies between two moments")
+    parser.flag(
+        "--period",
+        "the period of each loop that waits, from the moment of a wait to the issue of the next one; "
+        "with --function of that function's loop; --ns is what lies between two moments",
+    )
     parser.flag("--all", "answer for all hard threads: periods, stacks and budgets")
-    add("--from-label", metavar="A", help="a section's first address: a number, NAME or NAME+NUMBER")
+    add(
+        "--from-label", metavar="A", help="a section's first address: a number, NAME or NAME+NUMBER"
+    )
     add("--to-label", metavar="A", help="the address behind its last")
     add_limits(parser)
-    add("--runs", type=run_cycles, metavar="N", help="run each thread for N cycles, and compare the executions too")
+    add(
+        "--runs",
+        type=run_cycles,
+        metavar="N",
+        help="run each thread for N cycles, and compare the executions too",
+    )
     parser.flag("--path", "show where the bound goes: by function, line and loop")
     parser.flag("--json", "write the results as a JSON document")
     parser.path("--junit", "write the results, or the fault, to FILE, as JUnit has them", "FILE")
@@ -175,7 +196,10 @@ def refuse(parser: Parser, asked: argparse.Namespace) -> None:
     if (asked.from_label is None) != (asked.to_label is None):
         stop(parser, "--from-label and --to-label go together")
     if asked.period and (has_labels or asked.cycles is not None):
-        stop(parser, "--period takes neither labels nor --cycles: give --ns, what lies between two moments")
+        stop(
+            parser,
+            "--period takes neither labels nor --cycles: give --ns, what lies between two moments",
+        )
     if not asked.period and bool(asked.function) == has_labels:
         stop(parser, "--setup needs --period, --function, or --from-label and --to-label")
     for name, number in (("--cycles", asked.cycles), ("--ns", asked.ns)):
@@ -228,7 +252,11 @@ def of_all(asked: argparse.Namespace) -> tuple[list[Result], list[ThreadAnswer]]
     judge = judge_of(asked)
     if asked.budgets is None:
         asked.budgets = budgets_beside(asked.setup)
-        which = f"those of {asked.budgets}" if asked.budgets else f"none: no {BUDGETS} is next to the setup"
+        which = (
+            f"those of {asked.budgets}"
+            if asked.budgets
+            else f"none: no {BUDGETS} is next to the setup"
+        )
         print(f"fp_budget: the budgets are {which}", file=sys.stderr)
     budgets = read_budgets(asked.budgets, judge.setup.period) if asked.budgets else []
     whole = Whole(judge, frozenset(map(Assumption, asked.assume)))
@@ -242,7 +270,9 @@ def image_of(asked: argparse.Namespace, setup: Setup, program: Program) -> Mappi
         return read_image(setup.image)
     if asked.runs is not None:
         raise ValueError(f"{setup.image} isn't there, and --runs needs the setup's image")
-    print(f"fp_budget: {setup.image} isn't there: the image is made of {asked.file}", file=sys.stderr)
+    print(
+        f"fp_budget: {setup.image} isn't there: the image is made of {asked.file}", file=sys.stderr
+    )
     return dict(program.words)
 
 
@@ -267,26 +297,44 @@ def of_names(asked: argparse.Namespace) -> list[Result]:
             from fptools.period.periods import results_of
 
             judge = Judge(flexpret, setup, image, program, sources, has_paths=asked.path)
-            found = [it for budget in period_budgets(asked, cycles) for it in results_of(judge, budget)]
+            found = [
+                it for budget in period_budgets(asked, cycles) for it in results_of(judge, budget)
+            ]
         elif not asked.function:
             start, end = asked.from_label, asked.to_label
-            budget = Budget(f"{start} to {end}", asked.thread, start, end, cycles, True, assume=assume)
+            budget = Budget(
+                f"{start} to {end}", asked.thread, start, end, cycles, True, assume=assume
+            )
             found = [names.section(budget)]
         else:
-            budgets = [Budget(name, asked.thread, 0, 0, cycles, assume=assume) for name in asked.function]
+            budgets = [
+                Budget(name, asked.thread, 0, 0, cycles, assume=assume) for name in asked.function
+            ]
             found = [names.function(budget.name, budget) for budget in budgets]
     if asked.runs is None:
         return found
     from fptools.budget.runs import Runs
 
-    return Runs(flexpret, setup, image, program, asked.runs, True, bool(asked.function)).compared(found)
+    return Runs(flexpret, setup, image, program, asked.runs, True, bool(asked.function)).compared(
+        found
+    )
 
 
 def period_budgets(asked: argparse.Namespace, cycles: int | None) -> list[Budget]:
     """A budget for the loops of each function that is named, or for all loops that wait."""
     assume = frozenset(map(Assumption, asked.assume))
     return [
-        Budget(f"period of {name}" if name else "period", asked.thread, 0, 0, cycles, True, (), assume, PeriodOf(name, asked.ns))
+        Budget(
+            f"period of {name}" if name else "period",
+            asked.thread,
+            0,
+            0,
+            cycles,
+            True,
+            (),
+            assume,
+            PeriodOf(name, asked.ns),
+        )
         for name in asked.function or [None]
     ]
 

@@ -75,8 +75,12 @@ def table_of(setup: Setup, thread: int) -> int:
             return at
         if table["id"] == thread:
             line = setup.line(("thread", at, "inputs"))
-            raise ValueError(f"{setup.path}:{line}: thread {thread} has inputs: --replace takes them out")
-    raise ValueError(f"{setup.path} has no table of thread {thread}: add [[thread]] with id = {thread}")
+            raise ValueError(
+                f"{setup.path}:{line}: thread {thread} has inputs: --replace takes them out"
+            )
+    raise ValueError(
+        f"{setup.path} has no table of thread {thread}: add [[thread]] with id = {thread}"
+    )
 
 
 def without_inputs(setup: Setup, thread: int) -> str:
@@ -104,7 +108,9 @@ def with_inputs(setup: Setup, thread: int, inputs: Sequence[Input], text: str) -
     if tomllib.loads(made)["thread"][at].get("inputs") is None:
         raise ValueError(f"{setup.path}: thread {thread} has no [[thread]] of its own")
     if (size := len(made.encode())) > MOST_BYTES:
-        raise ValueError(f"{setup.path} with these inputs has {size} bytes, of {MOST_BYTES} at most")
+        raise ValueError(
+            f"{setup.path} with these inputs has {size} bytes, of {MOST_BYTES} at most"
+        )
     return made
 
 

@@ -80,7 +80,9 @@ def write(parts: list[Section], stated: list[list[StatedLoop]], inference: Infer
         for line in ways_out(part, program):
             print(line)
     for mark in inference.unreached(parts):
-        print(f"# {inference.where(mark.at)}: {mark.kind.value} of {mark.claim}: no path leads here")
+        print(
+            f"# {inference.where(mark.at)}: {mark.kind.value} of {mark.claim}: no path leads here"
+        )
 
 
 def main() -> int:

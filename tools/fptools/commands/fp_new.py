@@ -32,7 +32,9 @@ def parse() -> argparse.Namespace:
         metavar="N",
         help=f"the hard threads, 1 to {MOST_THREADS} ({THREADS})",
     )
-    parser.flag("--big", "scratchpads of 64 KiB, 8 KiB for each thread; else 16 and 2 (version = 2)")
+    parser.flag(
+        "--big", "scratchpads of 64 KiB, 8 KiB for each thread; else 16 and 2 (version = 2)"
+    )
     return parser.parse_args()
 
 

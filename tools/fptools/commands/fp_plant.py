@@ -101,7 +101,9 @@ def parse(words: list[str]) -> argparse.Namespace:
 def built_program() -> str:
     """The program of this repository, which is built if there is none of the current sources."""
     words = [sys.executable, str(LAUNCH), "fp_plant", PROGRAM.name]
-    if (TOP / "crates.txt").is_file() and subprocess.run([*words, "is-built"], check=False).returncode:
+    if (TOP / "crates.txt").is_file() and subprocess.run(
+        [*words, "is-built"], check=False
+    ).returncode:
         if subprocess.run([*words, "build"], check=False).returncode:
             raise NotRun(f"without {PROGRAM.name} there is no run")
     return str(PROGRAM)
@@ -113,7 +115,9 @@ def as_run(asked: argparse.Namespace) -> PlantRun:
     named = asked.program or os.environ.get("LOOP_CLI")
     program = named or built_program()
     if not os.access(program, os.X_OK):
-        raise NotRun(f"{program} isn't built: without --program and LOOP_CLI fp_plant builds its own one")
+        raise NotRun(
+            f"{program} isn't built: without --program and LOOP_CLI fp_plant builds its own one"
+        )
     return PlantRun(
         program, asked.setup, asked.thread, asked.every, asked.cycles, asked.command, asked.timeout
     )

@@ -31,7 +31,9 @@ def main() -> int:
     parser.path("--src", "where the sources are, if not where they were compiled", "DIR")
     asked = parser.parse_args()
     try:
-        context = Context(asked.setup, asked.file, named_by(asked.elf, asked.map), asked.src, asked.thread)
+        context = Context(
+            asked.setup, asked.file, named_by(asked.elf, asked.map), asked.src, asked.thread
+        )
         for line in explain(" ".join(asked.line) or sys.stdin.readline(), context):
             print(line)
         sys.stdout.flush()

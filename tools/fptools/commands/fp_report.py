@@ -84,7 +84,14 @@ def parse() -> argparse.Namespace:
         help="the sections and their budgets, as fp_budget reads them; with --all they may be left out",
     )
     parser.flag("--all", "the periods and stacks of all hard threads too")
-    add("-o", dest="out", type=Path, metavar="FILE", required=True, help="the file to write; - is refused")
+    add(
+        "-o",
+        dest="out",
+        type=Path,
+        metavar="FILE",
+        required=True,
+        help="the file to write; - is refused",
+    )
     parser.path("--elf", "the executable that the image was made of, for names and source lines")
     parser.path("--src", "where the sources are, if not where they were compiled", "DIR")
     add(

@@ -48,7 +48,13 @@ def add_events(parser: Parser) -> None:
     """Adds the options that select events."""
     add = parser.add_argument
     add("--from", dest="start", type=int, default=0, metavar="C", help="events from this cycle on")
-    add("--to", dest="end", type=int, metavar="C", help="events before this cycle; the rest isn't read")
+    add(
+        "--to",
+        dest="end",
+        type=int,
+        metavar="C",
+        help="events before this cycle; the rest isn't read",
+    )
     parser.many("--pc", "A", "events at this address")
     parser.many("--function", "A", "events in the function of this address")
     parser.many("--store", "N", "stores to this number, as 0x40000000")
@@ -64,8 +70,12 @@ def parse() -> argparse.Namespace:
     parser.path("--setup", "the setup of the run, for its period and the thread's turns")
     parser.thread("the thread, where the setup has more than one")
     parser.period(DEFAULT_PERIOD)
-    parser.path("--elf", "the executable, for symbols and, if it was compiled with -g, source lines")
-    parser.path("--map", "the map of a source (flexpret asm --map), for labels and source lines", "FILE")
+    parser.path(
+        "--elf", "the executable, for symbols and, if it was compiled with -g, source lines"
+    )
+    parser.path(
+        "--map", "the map of a source (flexpret asm --map), for labels and source lines", "FILE"
+    )
     parser.path("--src", "where the sources are, if not where they were compiled", "DIR")
     add("--objdump", default=find_tool(), metavar="TOOL", help="the objdump to use")
     add_events(parser)
@@ -121,10 +131,13 @@ class Shower:
                 raise ProgramError(other)
         self._comparison = Comparison(program, asked.elf is not None)
         self._disassembler = Disassembler(asked.objdump)
-        self._form = Form(Columns(program, self._disassembler, Sources(asked.src)), self._period, asked.form)
+        self._form = Form(
+            Columns(program, self._disassembler, Sources(asked.src)), self._period, asked.form
+        )
         stores = [stored(text) for text in asked.store]
         self._filter = Filter(
-            Wanted(asked.pc, asked.function, stores, asked.traps, asked.waits, asked.overruns), program
+            Wanted(asked.pc, asked.function, stores, asked.traps, asked.waits, asked.overruns),
+            program,
         )
         self._start, self._end = asked.start, asked.end
 

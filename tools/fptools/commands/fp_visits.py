@@ -93,9 +93,15 @@ def add_sections(parser: Parser) -> None:
     parser.many("--section", "[NAME=]A:B", "the section from A up to below B")
     parser.many("--function", "A", "the function at this address")
     parser.path("--elf", "the executable that the image was made of, for names and functions")
-    parser.path("--map", "the map of the source that it was made of (flexpret asm --map), for names", "FILE")
+    parser.path(
+        "--map", "the map of the source that it was made of (flexpret asm --map), for names", "FILE"
+    )
     parser.flag("--calls", "the sections of --section call functions of the executable")
-    parser.path("--routines", "they call these: lines of a first and a last word, as for the command calls", "FILE")
+    parser.path(
+        "--routines",
+        "they call these: lines of a first and a last word, as for the command calls",
+        "FILE",
+    )
     parser.flag("--no-bounds", "don't ask the program for bounds")
 
 
@@ -113,8 +119,21 @@ def parse() -> argparse.Namespace:
     add("--cycles", type=cycles, metavar="N", help="run the setup for N cycles")
     parser.thread("the thread, 0 to 7; left out, those of the budgets, or the only one")
     add_sections(parser)
-    add("--from", dest="start", type=cycles, default=0, metavar="C", help="events from this cycle on")
-    add("--to", dest="end", type=cycles, metavar="C", help="events before this cycle; the rest isn't read")
+    add(
+        "--from",
+        dest="start",
+        type=cycles,
+        default=0,
+        metavar="C",
+        help="events from this cycle on",
+    )
+    add(
+        "--to",
+        dest="end",
+        type=cycles,
+        metavar="C",
+        help="events before this cycle; the rest isn't read",
+    )
     parser.flag("--json", "write JSON")
     parser.flag("--csv", "write a row for each section")
     parser.add_argument("--flexpret", metavar="PROGRAM", help=HELP)
@@ -160,7 +179,8 @@ class Asked:
 
     def _called(self, start: int, end: int) -> tuple[tuple[int, int], ...]:
         return tuple(
-            (it.start, it.end) for it in called_functions(self.code, self.program.functions, start, end)
+            (it.start, it.end)
+            for it in called_functions(self.code, self.program.functions, start, end)
         )
 
     def _of_budgets(self) -> list[tuple[int, Watched]]:
@@ -172,7 +192,9 @@ class Asked:
             start, end = self._address(it.start), self._address(it.end)
             exits = frozenset(self._address(address) for address in it.exits)
             routines = self._called(start, end) if it.calls else ()
-            found.append((it.thread, Watched(it.name, start, end, routines, exits, budget=it.cycles)))
+            found.append(
+                (it.thread, Watched(it.name, start, end, routines, exits, budget=it.cycles))
+            )
         return found
 
     def periods(self) -> list[Result]:
@@ -283,7 +305,13 @@ class Asked:
         if options.cycles is not None:
             assert self.setup
             return run_and_observe(
-                self.flexpret, self.setup, question, options.cycles, options.start, options.end, NAME
+                self.flexpret,
+                self.setup,
+                question,
+                options.cycles,
+                options.start,
+                options.end,
+                NAME,
             )
         name = str(options.trace) if options.trace else "standard input"
         progress = Progress(NAME, options.end)
@@ -291,10 +319,13 @@ class Asked:
             raise Unclear("no trace: name a file, pipe one in, or run the setup by --cycles")
         if not options.trace:
             return observe(
-                TraceReader(Live(sys.stdin.fileno()), name, options.start, options.end, progress), question
+                TraceReader(Live(sys.stdin.fileno()), name, options.start, options.end, progress),
+                question,
             )
         with options.trace.open("rb", buffering=0) as source:
-            return observe(TraceReader(source, name, options.start, options.end, progress), question)
+            return observe(
+                TraceReader(source, name, options.start, options.end, progress), question
+            )
 
 
 def watched_function(function: Function) -> Watched:

@@ -40,7 +40,9 @@ def read_inputs(path: Path, scale: Decimal, period: int) -> list[Input]:
     first, header = next(rows, (1, []))
     if header not in FORMS:
         found_row = _shown(header) if header else "missing"
-        raise CsvError(f"{path}:{first}: the first row is {found_row}: write cycle,word or seconds,value")
+        raise CsvError(
+            f"{path}:{first}: the first row is {found_row}: write cycle,word or seconds,value"
+        )
     inputs: list[Input] = []
     for line, row in rows:
         try:

@@ -178,7 +178,8 @@ def uninterrupted() -> Iterator[None]:
 def connected(run: PlantRun, plants: Path) -> Iterator[Sequence[subprocess.Popen[bytes]]]:
     """The program and the plant, each of which reads what the other one writes. Both are ended
     in every case; the plant may end by itself only behind a run that is whole. Where a run is broken
-    off, the plant ends first: otherwise it could write to a program that is gone, and report that."""
+    off, the plant ends first: otherwise it could write to a program that is gone, and report that.
+    """
     to_plant, from_program = os.pipe()
     to_program, from_plant = os.pipe()
     processes: list[subprocess.Popen[bytes]] = []

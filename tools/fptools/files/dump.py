@@ -69,7 +69,9 @@ class Dump:
     dregions: int
     iregions: int
     threads: tuple[ThreadState, ...]
-    data: dict[int, int]  # the words of the data scratchpad by their addresses; those that are left out are 0
+    data: dict[
+        int, int
+    ]  # the words of the data scratchpad by their addresses; those that are left out are 0
 
 
 @dataclass(frozen=True)
@@ -130,7 +132,15 @@ def read_dump(text: str) -> Dump:
     threads = tuple(_thread(lines, number) for number in range(THREADS))
     fetching = int(picked[1]) if picked[1] else None
     return Dump(
-        int(cycles[0]), fetching, stages, slots, modes, dregions, iregions, threads, _data(lines.rest())
+        int(cycles[0]),
+        fetching,
+        stages,
+        slots,
+        modes,
+        dregions,
+        iregions,
+        threads,
+        _data(lines.rest()),
     )
 
 

@@ -64,6 +64,7 @@ class Inlined:
 # From which address on a line counts, or none.
 Row = tuple[int, Line | None]
 
+
 class Program:
     """A static ELF32 executable; without a file, one that has no words, symbols and lines."""
 
@@ -75,7 +76,9 @@ class Program:
         self.functions: list[Function] = []
         self.symbols: list[tuple[int, str]] = []
         self.knows_functions = True  # whether it is known which functions were inlined
-        self.record: dict[str, set[str]] | None = None  # the checksums of its sources by their names, where it has them
+        self.record: dict[
+            str, set[str]
+        ] | None = None  # the checksums of its sources by their names, where it has them
         self._files: list[str] = []  # the names of its sources, or of its objects
         self.has_local_symbols = False  # whether names are kept that are local to a source
         if path is None:
@@ -111,14 +114,19 @@ class Program:
         try:
             self.record = read_record(data)
         except NoRecord as fault:
-            raise ProgramError(f"{self.path}: section {SECTION}: {fault}: build it again by `make`") from fault
+            raise ProgramError(
+                f"{self.path}: section {SECTION}: {fault}: build it again by `make`"
+            ) from fault
 
     def _take_symbols(self, table: Dwarf) -> None:
         for symbol in table.iter_symbols():
             at, size, kind = symbol["st_value"], symbol["st_size"], symbol["st_info"]["type"]
             if kind == "STT_FILE":
                 self._files.append(symbol.name)
-            is_local = symbol["st_info"]["bind"] == "STB_LOCAL" and kind not in ("STT_SECTION", "STT_FILE")
+            is_local = symbol["st_info"]["bind"] == "STB_LOCAL" and kind not in (
+                "STT_SECTION",
+                "STT_FILE",
+            )
             self.has_local_symbols |= is_local and bool(symbol.name)
             is_label = kind == "STT_NOTYPE" and not symbol.name.startswith((".L", "$"))
             if symbol["st_shndx"] == "SHN_UNDEF" or not symbol.name or at >= CODE_END:
@@ -169,7 +177,11 @@ class Program:
     def address(self, text: str) -> int:
         """The address of a number, of a symbol, or of a symbol and a number after `+`."""
         parts = ADDRESS.fullmatch(text)
-        if not text or parts is None or bool(parts["plus"]) != bool(parts["name"] and parts["number"]):
+        if (
+            not text
+            or parts is None
+            or bool(parts["plus"]) != bool(parts["name"] and parts["number"])
+        ):
             raise ProgramError(f"{text} is no address: a number, NAME or NAME+NUMBER")
         digits = parts["number"] or "0"
         number = int(digits, 16 if digits.startswith("0x") else 10)
@@ -179,9 +191,13 @@ class Program:
         if not named and self.path is None:
             raise ProgramError(f"{parts['name']} is a name, and names need {self.names_need}")
         if not named:
-            raise ProgramError(f"{parts['name']} is no symbol of code in {self.path}{self._why_no_symbol(parts['name'])}")
+            raise ProgramError(
+                f"{parts['name']} is no symbol of code in {self.path}{self._why_no_symbol(parts['name'])}"
+            )
         if len(named) > 1:
-            raise ProgramError(f"{parts['name']} is at {' and '.join(map(hex, named))}: give the number")
+            raise ProgramError(
+                f"{parts['name']} is at {' and '.join(map(hex, named))}: give the number"
+            )
         return named[0] + number
 
     def named(self, name: str) -> list[int]:
@@ -227,7 +243,8 @@ class Program:
     def all_lines(self) -> list[Line]:
         """The source lines that some address was compiled from."""
         return sorted(
-            {line for _, line in self._lines if line is not None}, key=lambda it: (it.file, it.number)
+            {line for _, line in self._lines if line is not None},
+            key=lambda it: (it.file, it.number),
         )
 
     @cached_property
@@ -244,14 +261,18 @@ class Program:
                 dwarf = elf.get_dwarf_info()
                 return [it for unit in dwarf.iter_CUs() for it in _inlined_of(dwarf, unit)]
             except (ELFError, DWARFError, NoCall, *FAULTS):
-                self.knows_functions = False  # a form of DWARF that isn't known: each address has its own line
+                self.knows_functions = (
+                    False  # a form of DWARF that isn't known: each address has its own line
+                )
                 return []
 
     @cached_property
     def folders(self) -> list[Path]:
         """The folders in which its units were compiled, as far as it names them."""
         tops = (unit.get_top_DIE().attributes for unit in self._debug_units)
-        return sorted({Path(it["DW_AT_comp_dir"].value.decode()) for it in tops if "DW_AT_comp_dir" in it})
+        return sorted(
+            {Path(it["DW_AT_comp_dir"].value.decode()) for it in tops if "DW_AT_comp_dir" in it}
+        )
 
     @cached_property
     def function_names(self) -> frozenset[str]:
@@ -306,7 +327,10 @@ class Program:
     def _lines(self) -> list[Row]:
         """The lines, each with the address from which it counts; None from the end of a piece that was compiled together."""
         # Where one unit ends another may begin: its line counts.
-        return sorted((row for piece in self._pieces for row in piece), key=lambda row: (row[0], row[1] is not None))
+        return sorted(
+            (row for piece in self._pieces for row in piece),
+            key=lambda row: (row[0], row[1] is not None),
+        )
 
     @cached_property
     def _pieces(self) -> list[list[Row]]:
@@ -320,7 +344,9 @@ class Program:
                 elf = ELFFile(file)
                 dwarf = elf.get_dwarf_info() if elf.has_dwarf_info() else None
                 units = dwarf.iter_CUs() if dwarf else ()
-                return list(linked([it for unit in units for it in pieces_of(_rows_of(dwarf, unit))]))
+                return list(
+                    linked([it for unit in units for it in pieces_of(_rows_of(dwarf, unit))])
+                )
         except (ELFError, DWARFError, *FAULTS) as fault:
             # Version 0.29 of pyelftools has no form for the checksums of files that clang writes.
             text = "has line tables that pyelftools can't read; -gdwarf-4 gives others"
@@ -384,7 +410,8 @@ def _inlined_of(dwarf: Dwarf, unit: Dwarf) -> Iterator[Inlined]:
         if not {"DW_AT_call_file", "DW_AT_call_line"} <= known.keys():
             raise NoCall
         line = Line(
-            _file_of(table.header, known["DW_AT_call_file"].value, base), known["DW_AT_call_line"].value
+            _file_of(table.header, known["DW_AT_call_file"].value, base),
+            known["DW_AT_call_line"].value,
         )
         for start, end in _ranges_of(dwarf, unit, entry):
             yield Inlined(start, end, line)

@@ -58,7 +58,9 @@ def _look_at(path: Path | str, start: int, length: int, before: int) -> None:
     if start % 4 or length % 4 or not length or not is_inside:
         raise ImageError(f"{path} is no image: a segment of {length} bytes at {start:#x}")
     if start < before:
-        raise ImageError(f"{path} is no image: the segment at {start:#x} isn't behind the one before")
+        raise ImageError(
+            f"{path} is no image: the segment at {start:#x} isn't behind the one before"
+        )
 
 
 def write_image(words: Mapping[int, int]) -> bytes:

@@ -120,7 +120,9 @@ def _refusals(setup: Setup) -> Iterator[Said]:
             yield error((*path, "entry"), past)
         yield from _unsorted(path, thread)
     for path, loop in _loops(setup):
-        yield from (error((*path, key), past) for key in ("head", "last") if loop[key] >= setup.size)
+        yield from (
+            error((*path, key), past) for key in ("head", "last") if loop[key] >= setup.size
+        )
         if loop["last"] < loop["head"]:
             yield error((*path, "last"), "is below head")
 
@@ -142,8 +144,14 @@ def _image(setup: Setup) -> tuple[dict[int, int] | None, list[Said]]:
         return None, [error(("image",), str(fault))]
     except OSError as fault:
         beside = setup.path.parent / image.name
-        hint = f"; {beside} is there: names are relative to the folder of the call" if beside.is_file() else ""
-        return None, [warning(("image",), f"{image} can't be read from here: {fault.strerror}{hint}")]
+        hint = (
+            f"; {beside} is there: names are relative to the folder of the call"
+            if beside.is_file()
+            else ""
+        )
+        return None, [
+            warning(("image",), f"{image} can't be read from here: {fault.strerror}{hint}")
+        ]
     except ValueError as fault:  # a name with a zero byte
         return None, [warning(("image",), f"can't be read: {fault}")]
     if any(at % DATA_START >= setup.size for at in words):
@@ -179,7 +187,9 @@ def _turns(setup: Setup) -> Iterator[Said]:
             yield say((*path, "mode"), f"{name} is hard, and no slot is its own: it doesn't run")
         if thread["mode"] == "soft" and "S" not in slots:
             say = note if sleepers else warning
-            text = f"{name} is soft, and no slot is S or its own: it runs while a slot's thread sleeps"
+            text = (
+                f"{name} is soft, and no slot is S or its own: it runs while a slot's thread sleeps"
+            )
             yield say((*path, "mode"), text)
 
 
@@ -268,9 +278,7 @@ def _loop_tables(setup: Setup, words: Words) -> Iterator[Said]:
         head, last, bound = loop["head"], loop["last"], loop["bound"]
         backs = [pc for pc in range(head, last + 4, 4) if pc in jumps.get(head, ())]
         if not backs:
-            text = (
-                f"no branch or jump from {head:#x} to {last:#x} goes back to {head:#x}: has the code moved?"
-            )
+            text = f"no branch or jump from {head:#x} to {last:#x} goes back to {head:#x}: has the code moved?"
             yield warning((*path, "head"), text)
             continue
         if backs[-1] != last:

@@ -47,6 +47,8 @@ def _unknown_keys(table: Values, known: Collection[str], top: Collection[str]) -
         near = get_close_matches(key, known, 1)
         is_below = key in top and known != top
         remedy = "it belongs to the top: write it above the first table" if is_below else ""
-        remedy = remedy or (f"is '{near[0]}' meant?" if near else f"the keys are {', '.join(known)}")
+        remedy = remedy or (
+            f"is '{near[0]}' meant?" if near else f"the keys are {', '.join(known)}"
+        )
         said.append(f"'{key}' is no key of this table: {remedy}")
     return "; ".join(said)

@@ -114,7 +114,9 @@ class Setup:
 
     @cached_property
     def loops(self) -> list[LoopTable]:
-        return [LoopTable(it["head"], it["last"], it["bound"]) for it in self.values.get("loop", [])]
+        return [
+            LoopTable(it["head"], it["last"], it["bound"]) for it in self.values.get("loop", [])
+        ]
 
     def thread(self, number: int) -> ThreadTable | None:
         """The table of a thread. A thread without one is soft and asleep, with entry 0."""

@@ -26,7 +26,9 @@ def read_toml(path: Path, most: int | None = None) -> tuple[str, Values]:
     try:
         text = data.decode("utf-8-sig")
     except UnicodeDecodeError as fault:
-        raise TomlError(path, data.count(b"\n", 0, fault.start) + 1, f"isn't UTF-8: {fault.reason}") from fault
+        raise TomlError(
+            path, data.count(b"\n", 0, fault.start) + 1, f"isn't UTF-8: {fault.reason}"
+        ) from fault
     try:
         return text, tomllib.loads(text)
     except tomllib.TOMLDecodeError as fault:

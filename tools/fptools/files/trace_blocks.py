@@ -186,7 +186,9 @@ class TraceReader:
             self.progress.end()
         if rest and not self._ends:
             raise BrokenTrace(
-                self._fault_text(self.lines_read + 1, rest, "it has no line feed, so the trace was cut")
+                self._fault_text(
+                    self.lines_read + 1, rest, "it has no line feed, so the trace was cut"
+                )
             )
 
     def _block(self, data: bytes) -> Iterator[Block]:
@@ -201,7 +203,9 @@ class TraceReader:
             fault = _first_fault(lines, self._before)
         broken = None
         if fault is not None:
-            broken = self._fault_text(self.lines_read + fault.index + 1, lines[fault.index], fault.text)
+            broken = self._fault_text(
+                self.lines_read + fault.index + 1, lines[fault.index], fault.text
+            )
             lines = lines[: fault.index]
             chars = [self.places[line[PLACE]] for line in lines]
         yield from self._narrowed(lines, chars, data)
@@ -215,7 +219,9 @@ class TraceReader:
         cycles = list(map(itemgetter(CYCLE), lines))
         is_after = self._before is None or self._before[CYCLE] < cycles[0]
         return (
-            is_after and LENGTHS.issuperset(map(len, lines)) and all(map(lt, cycles, islice(cycles, 1, None)))
+            is_after
+            and LENGTHS.issuperset(map(len, lines))
+            and all(map(lt, cycles, islice(cycles, 1, None)))
         )
 
     def _narrowed(self, lines: list[bytes], chars: list[str], data: bytes) -> Iterator[Block]:
@@ -236,7 +242,9 @@ class TraceReader:
                 data = b"\n".join(lines) + b"\n"
             yield self._made(lines, chars, data, before)
 
-    def _made(self, lines: list[bytes], chars: list[str], data: bytes, before: bytes | None) -> Block:
+    def _made(
+        self, lines: list[bytes], chars: list[str], data: bytes, before: bytes | None
+    ) -> Block:
         traps = _indexes_of_traps(data)
         while traps and traps[-1] >= len(lines):
             traps.pop()

@@ -16,7 +16,8 @@ class NotWritten(OSError):
 def write_whole(name: str | Path, data: bytes) -> None:
     """Writes a file. Where that fails, what was there stays. A link leads to it as before.
 
-    A pipe or a device gets the bytes as they are. What fails is `NotWritten`, or a pipe that nobody reads."""
+    A pipe or a device gets the bytes as they are. What fails is `NotWritten`, or a pipe that nobody reads.
+    """
     try:
         _write(Path(os.path.realpath(name)), data)
     except BrokenPipeError:

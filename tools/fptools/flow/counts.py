@@ -17,7 +17,15 @@ from fptools.code.section import Loop, Section, walk
 from fptools.code.values import State, Value, Values, adds, jumps_of, signed, unknown, written_by
 from fptools.isa.words import Flow, Word
 
-__all__ = ["Count", "Side", "called_with", "count_of", "count_of_straight", "jumps_of", "until_it_leaves"]
+__all__ = [
+    "Count",
+    "Side",
+    "called_with",
+    "count_of",
+    "count_of_straight",
+    "jumps_of",
+    "until_it_leaves",
+]
 
 BEQ, BNE, BLT, BGE, BLTU, BGEU = 0, 1, 4, 5, 6, 7
 MOST_BEFORE = 64

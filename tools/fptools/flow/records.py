@@ -213,7 +213,9 @@ class Marks:
         is_of_one = is_one(names, aliases)
         if not is_of_one and len({*names}) > 1:
             what = f"{' and '.join(names)} share their code"
-            helps = "write a function in place of an alias, or link without --icf if that folded them"
+            helps = (
+                "write a function in place of an alias, or link without --icf if that folded them"
+            )
             return f"{what}: {helps}"
         if not is_of_one or program.is_shared(mark.at):
             return f"{function.name} shares its code with another function: link without --icf"

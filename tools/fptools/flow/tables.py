@@ -12,7 +12,9 @@ def table(stated: StatedLoop, program: Program) -> str:
     """The table of a loop for a setup; one without a bound has `?` in its place, which no setup takes."""
     loop = stated.loop
     line = program.line_of(max(loop.backs))
-    where = f"{program.name_of(loop.head)} to {program.name_of(loop.last)}" + (f", {line}" if line else "")
+    where = f"{program.name_of(loop.head)} to {program.name_of(loop.last)}" + (
+        f", {line}" if line else ""
+    )
     source = f": {stated.source}" if stated.bound is not None else ""
     bound = f"?  # {stated.doubt}" if stated.bound is None else f"{stated.bound}"
     return f"[[loop]]  # {where}{source}\nhead = {loop.head:#x}\nlast = {loop.last:#x}\nbound = {bound}\n"

@@ -110,7 +110,9 @@ class Monitor:
     def _explained(self, refusal: str, thread: int) -> list[str]:
         """The explanation of a refusal by fp_refusal; nothing for other reasons."""
         try:
-            return explain(refusal, Context(self.machine.runs.setup, None, self.program, None, thread))
+            return explain(
+                refusal, Context(self.machine.runs.setup, None, self.program, None, thread)
+            )
         except FAULTS:
             return []
 
@@ -120,7 +122,9 @@ class Monitor:
         """The bound of a section with loops that the setup has no table for: the executable bounds
         them, as for fp_budget. What fp_budget would refuse for other reasons is a note."""
         if find_spec("jsonschema") is None:
-            text = f"T{thread} has no bound there: no [[loop]] of the setup states a loop of it, and"
+            text = (
+                f"T{thread} has no bound there: no [[loop]] of the setup states a loop of it, and"
+            )
             raise Misuse(f"{text} python3-jsonschema isn't installed, by which fp_budget bounds it")
         from fptools.budget.budgets import Assumption, Budget, Judge, Verdict
         from fptools.files.image import read_image

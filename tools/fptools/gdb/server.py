@@ -154,7 +154,8 @@ class Server:
 
     def _is_there(self, text: str) -> bytes:
         """Whether a thread is there. gdb asks so for the thread that its user selects, and a step
-        back names none: so the selected one steps. `thread apply all` asks for all, and selects none."""
+        back names none: so the selected one steps. `thread apply all` asks for all, and selects none.
+        """
         self.resumed = _thread(text)
         self.asked.append(self.resumed)
         if self.asked in (ALL_THREADS, ALL_THREADS[::-1]):

@@ -77,7 +77,9 @@ class Disassembler:
         with tempfile.TemporaryDirectory() as folder:
             lines = self._dump(Path(folder), bytes(data)).splitlines()
         found = (SHOWN.fullmatch(line) for line in lines)
-        texts = {int(it[1], 16): _plain(it[2]) for it in found if it and not it[2].startswith(UNKNOWN)}
+        texts = {
+            int(it[1], 16): _plain(it[2]) for it in found if it and not it[2].startswith(UNKNOWN)
+        }
         return {at: text for at, text in texts.items() if at in words}
 
     def _dump(self, folder: Path, data: bytes) -> str:

@@ -60,7 +60,10 @@ class Form:
 def _rows(names: str, opcode: int, operands: str, functs: str = "", upper: int = 0) -> list[Form]:
     """Instructions of an opcode. `functs` are their values of funct3, which else count from 0; `upper` is their funct7."""
     numbers = map(int, functs or "01234567")
-    return [Form(name, upper << 25 | at << 12 | opcode, operands) for name, at in zip(names.split(), numbers)]
+    return [
+        Form(name, upper << 25 | at << 12 | opcode, operands)
+        for name, at in zip(names.split(), numbers)
+    ]
 
 
 FORMS = (
@@ -77,7 +80,10 @@ FORMS = (
     *_rows("gt gth", TIMING, "d"), *_rows("du wu ee", TIMING, "st", "234"), *_rows("de", TIMING, "", "5"),
 )  # fmt: skip
 BY_NAME = {form.name: form for form in FORMS}
-BY_OPCODE = {opcode: [form for form in FORMS if form.bits & 0x7F == opcode] for opcode in {form.bits & 0x7F for form in FORMS}}
+BY_OPCODE = {
+    opcode: [form for form in FORMS if form.bits & 0x7F == opcode]
+    for opcode in {form.bits & 0x7F for form in FORMS}
+}
 
 _known: dict[int, Form | None] = {}
 

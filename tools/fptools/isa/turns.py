@@ -46,10 +46,16 @@ def lag(word: Word, to: int, traps: bool) -> int:
         return REDIRECT_LAG
     if word.opcode == OPCODE_BRANCH:
         return PLAIN_LAG if to == word.next else REDIRECT_LAG
-    if word.opcode == OPCODE_SYSTEM or word.opcode == OPCODE_TIMING and word.funct3 not in FUNCT3_GET_TIME:
+    if (
+        word.opcode == OPCODE_SYSTEM
+        or word.opcode == OPCODE_TIMING
+        and word.funct3 not in FUNCT3_GET_TIME
+    ):
         return REDIRECT_LAG
     is_late = (
-        word.opcode == OPCODE_LOAD or word.opcode == OPCODE_REGISTERS and word.field(25, 7) == FUNCT7_MULDIV
+        word.opcode == OPCODE_LOAD
+        or word.opcode == OPCODE_REGISTERS
+        and word.field(25, 7) == FUNCT7_MULDIV
     )
     return LATE_LAG if is_late else PLAIN_LAG
 

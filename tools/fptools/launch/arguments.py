@@ -41,7 +41,12 @@ COMMANDS = {
 ALL_COMMANDS = (*COMMANDS, "disasm")
 """The commands of the script: those of the program, and one that a tool runs."""
 
-ADDED = {"asm": ("-o", "--listing", "--map"), "elf": ("-o",), "bound": ("--elf", "--map"), "calls": ("--elf", "--map")}
+ADDED = {
+    "asm": ("-o", "--listing", "--map"),
+    "elf": ("-o",),
+    "bound": ("--elf", "--map"),
+    "calls": ("--elf", "--map"),
+}
 """The options that the script adds to a command."""
 
 BEFORE_VIEW = ("--quiet", "--unproved", "--use", "--version", "--help")
@@ -70,7 +75,9 @@ class Fault(Exception):
 def form(name: str) -> str:
     """The usage of a command."""
     command = COMMANDS[name]
-    return " ".join([name, command.subject, *(f"--{option} {VALUES[option]}" for option in command.options)])
+    return " ".join(
+        [name, command.subject, *(f"--{option} {VALUES[option]}" for option in command.options)]
+    )
 
 
 # ---------------------------------------------------------------- numbers
@@ -122,7 +129,11 @@ def value_fault(name: str, option: str, text: str) -> str | None:
     """The fault of the value of a command's option, or None."""
     if name == "check" and option == "cycles":
         is_large = decimal(text, MOST_CYCLES) is not None and decimal(text, MOST_CHECKED) is None
-        return f"check compares at most {MOST_CHECKED} cycles" if is_large else cycles_fault(text, MOST_CHECKED)
+        return (
+            f"check compares at most {MOST_CHECKED} cycles"
+            if is_large
+            else cycles_fault(text, MOST_CHECKED)
+        )
     return FAULTS.get(option, lambda text: None)(text)
 
 
@@ -165,7 +176,11 @@ def option_of(
 def unknown_option(name: str, word: str) -> str:
     """The message about an argument that begins with `-` and is no option of the command."""
     options = [*(f"--{one}" for one in COMMANDS[name].options), *ADDED.get(name, ())]
-    known = f"{name} has the option{'s' * (len(options) > 1)} {listed(options)}" if options else f"{name} has no options"
+    known = (
+        f"{name} has the option{'s' * (len(options) > 1)} {listed(options)}"
+        if options
+        else f"{name} has no options"
+    )
     if not word.startswith("--"):
         return f"{word}: {known}; a file whose name begins with - is written ./{word}"
     option = word.partition("=")[0]
@@ -177,7 +192,9 @@ def unknown_option_before(word: str, known: Sequence[str] = BEFORE) -> str:
     """The message about an argument before the command that begins with `-` and is no option of the script."""
     option = word.partition("=")[0]
     near = difflib.get_close_matches(option, known, 1)
-    return f"{option}: no such option before the command; these are {listed(known)}" + (f"; is {near[0]} meant?" if near else "")
+    return f"{option}: no such option before the command; these are {listed(known)}" + (
+        f"; is {near[0]} meant?" if near else ""
+    )
 
 
 def listed(names: Sequence[str]) -> str:
@@ -195,13 +212,17 @@ def check(name: str, asked: Asked) -> None:
         fault = value_fault(name, option, texts[0])
         if fault:
             raise Fault(f"--{option} {texts[0]}: {fault}")
-    missing = [f"--{option} {VALUES[option]}" for option in command.options if option not in asked.values]
+    missing = [
+        f"--{option} {VALUES[option]}" for option in command.options if option not in asked.values
+    ]
     if not asked.subjects:
         missing.insert(0, command.subject)
     if missing:
         raise Fault(f"{name} needs {' and '.join(missing)}")
     if len(asked.subjects) > 1:
-        raise Fault(f"{asked.subjects[1]}: {name} takes one {command.subject}, and {asked.subjects[0]} is that")
+        raise Fault(
+            f"{asked.subjects[1]}: {name} takes one {command.subject}, and {asked.subjects[0]} is that"
+        )
     if name == "selfrun" and decimal(asked.subjects[0], MOST_NUMBER) is None:
         raise Fault(f"selfrun {asked.subjects[0]}: NUMBER is decimal, at most {MOST_NUMBER}")
 
@@ -232,5 +253,9 @@ def files_of(words: list[str]) -> list[tuple[str, str]]:
     name, asked = parse(words)
     command = COMMANDS[name]
     files = [] if name == "selfrun" else [(asked.subjects[0], command.subject.lower())]
-    files += [(asked.value(option), f"file of --{option}") for option in command.options if VALUES[option] == "FILE"]
+    files += [
+        (asked.value(option), f"file of --{option}")
+        for option in command.options
+        if VALUES[option] == "FILE"
+    ]
     return files

@@ -52,5 +52,7 @@ def warnings(command: list[str], line: str) -> list[str]:
         return []
     lines = list(ways_out(words, start, end))
     if line == "bound 0":
-        lines.append(f"the bound is 0: no path from {start:08x} leaves the section after a cycle; tools/fp_budget says why")
+        lines.append(
+            f"the bound is 0: no path from {start:08x} leaves the section after a cycle; tools/fp_budget says why"
+        )
     return lines

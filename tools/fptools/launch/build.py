@@ -35,7 +35,13 @@ NEEDED_DISK = 3 << 30
 LOGIC = "dac8208d650f15bf"
 """The logic of the kit that README.md names."""
 
-FIRST_SECONDS, SOURCE_SECONDS, PROOF_SECONDS, LIBRARY_SECONDS, LINK_SECONDS = 10.0, 0.0018, 0.0003, 3.0, 60.0
+FIRST_SECONDS, SOURCE_SECONDS, PROOF_SECONDS, LIBRARY_SECONDS, LINK_SECONDS = (
+    10.0,
+    0.0018,
+    0.0003,
+    3.0,
+    60.0,
+)
 """The seconds of a crate on a processor of 2.5 GHz: fixed, for a byte of src, for a byte of specs and proofs, for each crate that it uses, and for
 the link of a program."""
 
@@ -110,7 +116,10 @@ class Plan:
     def below(self) -> dict[str, list[str]]:
         """The crates of the repository that each crate uses."""
         libraries = self.checkout.libraries()
-        return {crate: [one for one in libraries[crate] if one in libraries] for crate in self.checkout.crates()}
+        return {
+            crate: [one for one in libraries[crate] if one in libraries]
+            for crate in self.checkout.crates()
+        }
 
     @cached_property
     def weight(self) -> dict[str, float]:
@@ -131,7 +140,10 @@ class Plan:
     def left(self) -> float:
         """The estimated seconds until the program is built, by the pace so far."""
         pace, rest = self.pace(), self.rest()
-        longest = max(((self.chain[it] - self.weight[it]) * pace + left for it, left in rest.items()), default=0.0)
+        longest = max(
+            ((self.chain[it] - self.weight[it]) * pace + left for it, left in rest.items()),
+            default=0.0,
+        )
         return max(sum(rest.values()) / self.at_once, longest / JOBS_GAIN)
 
     def ahead(self) -> list[str]:
@@ -147,7 +159,11 @@ class Plan:
         """The estimated seconds that each crate still takes here."""
         pace, spent = self.pace(), self.spent()
         expected = {crate: self.weight[crate] * pace for crate in self.ahead()}
-        return expected | {crate: max(expected[crate] - took, took * OVERRUN) for crate, took in spent.items() if crate in expected}
+        return expected | {
+            crate: max(expected[crate] - took, took * OVERRUN)
+            for crate, took in spent.items()
+            if crate in expected
+        }
 
     def niceness(self, crate: str) -> int:
         """The niceness of a crate's proof: 0 for the crate at the start of the longest chain."""
@@ -156,18 +172,22 @@ class Plan:
 
     def jobs(self, ready: int) -> int:
         """The number of jobs of the proof that was added to `running` last: one, and one for each processor that neither the other
-        running proofs nor the `ready` crates need. Each job reads all libraries of the crate, so memory limits them too."""
+        running proofs nor the `ready` crates need. Each job reads all libraries of the crate, so memory limits them too.
+        """
         idle = self.at_once - len(self.running) - ready
         return 1 + max(0, min(idle, free_memory() // JOB_MEMORY - 1))
 
     def pace(self) -> float:
         """The time of crates here, relative to a quiet processor of 2.5 GHz: by the load before the build, by crates that are proved, and by those
-        that take longer than their estimate. Crates that took less than FIRST_SECONDS had been proved before."""
+        that take longer than their estimate. Crates that took less than FIRST_SECONDS had been proved before.
+        """
         by_load = max(1.0, (self.load + self.at_once) / processors())
         took, known = TRUST_SECONDS * by_load, TRUST_SECONDS
         for crate, seconds in [*self.done.items(), *self.spent().items()]:
             is_late = seconds > self.weight[crate] * by_load
-            if (crate in self.done and seconds > FIRST_SECONDS) or (crate not in self.done and is_late):
+            if (crate in self.done and seconds > FIRST_SECONDS) or (
+                crate not in self.done and is_late
+            ):
                 took, known = took + seconds, known + self.weight[crate]
         return took / known
 
@@ -184,7 +204,13 @@ class Progress:
             return
         plan = self.plan
         spent = plan.spent()
-        at = ", ".join(crate + (f" (for {minutes(spent[crate])})" if spent[crate] >= 60 else "") for crate in plan.running) or "the program"
+        at = (
+            ", ".join(
+                crate + (f" (for {minutes(spent[crate])})" if spent[crate] >= 60 else "")
+                for crate in plan.running
+            )
+            or "the program"
+        )
         line = f"{self.script}: {len(plan.done)} of {len(plan.below)} crates proved; now {at}; about {minutes(plan.left())} left"
         if self.terminal:
             columns = shutil.get_terminal_size().columns
@@ -232,7 +258,12 @@ class Builder:
         flags, checkout = ["--jobs", str(count)], self.plan.checkout
         if crate == checkout.crate:
             self.hold.close()
-            self.call(checkout.top, crate, niceness, ["run", *flags, *(["--", *TRIED[crate]] if crate in TRIED else [])])
+            self.call(
+                checkout.top,
+                crate,
+                niceness,
+                ["run", *flags, *(["--", *TRIED[crate]] if crate in TRIED else [])],
+            )
         else:
             with tree_of(checkout, crate) as top:
                 self.call(top, crate, niceness, ["lib", *flags])
@@ -253,7 +284,11 @@ class Builder:
         ready: list[str] = []
         futures: dict[Future[None], str] = {}
         with self.hold, ThreadPoolExecutor(plan.at_once) as pool:
-            waits = "" if progress.quiet else f"{progress.script}: an rt works in this checkout: waiting for it"
+            waits = (
+                ""
+                if progress.quiet
+                else f"{progress.script}: an rt works in this checkout: waiting for it"
+            )
             self.hold.enter_context(locked(plan.checkout.out.parent, waits))
             try:
                 while order.is_active():
@@ -261,9 +296,17 @@ class Builder:
                     while ready and len(futures) < plan.at_once:
                         crate = ready.pop()
                         plan.running[crate] = time.monotonic()
-                        futures[pool.submit(self.prove, crate, plan.niceness(crate), plan.jobs(len(ready)))] = crate
+                        futures[
+                            pool.submit(
+                                self.prove, crate, plan.niceness(crate), plan.jobs(len(ready))
+                            )
+                        ] = crate
                     progress.show()
-                    ended, _ = wait(futures, timeout=30 if progress.terminal else None, return_when=FIRST_COMPLETED)
+                    ended, _ = wait(
+                        futures,
+                        timeout=30 if progress.terminal else None,
+                        return_when=FIRST_COMPLETED,
+                    )
                     for future in ended:
                         crate = futures.pop(future)
                         future.result()
@@ -298,7 +341,11 @@ def in_turn(script: str, checkout: Checkout, quiet: bool) -> Iterator[bool]:
         except BlockingIOError:
             waited = True
             if not quiet:
-                print(f"{script}: another call builds here: waiting for it", file=sys.stderr, flush=True)
+                print(
+                    f"{script}: another call builds here: waiting for it",
+                    file=sys.stderr,
+                    flush=True,
+                )
             fcntl.flock(held, fcntl.LOCK_EX)
         except OSError:
             pass  # a file system without locks
@@ -309,14 +356,21 @@ def first_line(checkout: Checkout, plan: Plan) -> str:
     """The first message of a build."""
     return (
         f"{'the program' if checkout.crate in UNPROVED else checkout.crate} isn't built yet: {len(plan.below)} crates are proved first, in about"
-        f" {minutes(plan.left())}" + (f"; for an answer now, without a proof: {UNPROVED[checkout.crate]}" if checkout.crate in UNPROVED else "")
+        f" {minutes(plan.left())}"
+        + (
+            f"; for an answer now, without a proof: {UNPROVED[checkout.crate]}"
+            if checkout.crate in UNPROVED
+            else ""
+        )
     )
 
 
 def look_ahead(checkout: Checkout) -> None:
     """Raises NotBuilt if a build can't succeed: no `rt`, no folder, no space on the disk."""
     if shutil.which("rt") is None:
-        raise NotBuilt("the program isn't built, and rt of the kit that README.md names isn't on the PATH")
+        raise NotBuilt(
+            "the program isn't built, and rt of the kit that README.md names isn't on the PATH"
+        )
     try:
         checkout.out.mkdir(parents=True, exist_ok=True)
         free = shutil.disk_usage(checkout.out).free
@@ -362,7 +416,10 @@ def run_builder(builder: Builder, progress: Progress) -> None:
         builder.stop()
         raise NotBuilt("broken off; the next call goes on with what is proved")
 
-    before = {number: signal.signal(number, end) for number in (signal.SIGINT, signal.SIGTERM, signal.SIGHUP)}
+    before = {
+        number: signal.signal(number, end)
+        for number in (signal.SIGINT, signal.SIGTERM, signal.SIGHUP)
+    }
     try:
         builder.build(progress)
     finally:

@@ -36,9 +36,13 @@ def lines(files: list[tuple[str, str]]) -> list[str]:
         if image is not None:
             told.append((image, f"image of {name}", state_of(image)))
     bad = [one for one in told if one[2] != "is there"] or told
-    found = [f"{name}: the {what} {state} (looked for from {Path.cwd()})" for name, what, state in bad]
+    found = [
+        f"{name}: the {what} {state} (looked for from {Path.cwd()})" for name, what, state in bad
+    ]
     for name, what, state in bad:
         beside = Path(files[0][0]).parent / Path(name).name
         if what.startswith("image of") and state != "is there" and beside.exists():
-            found.append(f"{beside} is there: a setup names its image as it is seen from the folder of the call")
+            found.append(
+                f"{beside} is there: a setup names its image as it is seen from the folder of the call"
+            )
     return found

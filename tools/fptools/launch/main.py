@@ -66,7 +66,11 @@ def files(script: str, checkout: Checkout, words: list[str]) -> int:
     from fptools.launch.view import parse
 
     try:
-        named = files_of(words) if checkout.crate == "flexpret_cli" else [(parse(words).subjects[0], "setup")]
+        named = (
+            files_of(words)
+            if checkout.crate == "flexpret_cli"
+            else [(parse(words).subjects[0], "setup")]
+        )
     except (Fault, IndexError):
         return 1
     for line in lines(named):

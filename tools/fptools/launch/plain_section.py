@@ -14,7 +14,13 @@ def image_of(setup: str) -> str:
     key, _, value = line.partition("=")
     quote = value.strip()[:1]
     name, end, rest = value.strip()[1:].partition(quote)
-    if key.strip() != "image" or quote not in ('"', "'") or not end or "\\" in name or rest.strip()[:1] not in ("", "#"):
+    if (
+        key.strip() != "image"
+        or quote not in ('"', "'")
+        or not end
+        or "\\" in name
+        or rest.strip()[:1] not in ("", "#")
+    ):
         raise ValueError
     return name
 
@@ -22,7 +28,11 @@ def image_of(setup: str) -> str:
 def stays(pc: int, word: int, start: int, end: int) -> bool:
     """Whether a word has successors, and all are in the section or at its end. A call has none there."""
     found = edges(pc, word)
-    return bool(found) and not is_call(word) and all(start <= to <= end and to % 4 == 0 for to in found)
+    return (
+        bool(found)
+        and not is_call(word)
+        and all(start <= to <= end and to % 4 == 0 for to in found)
+    )
 
 
 def is_plain(setup: str, start: int, end: int) -> bool:

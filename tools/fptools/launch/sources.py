@@ -48,8 +48,15 @@ class Stamp:
     sources: tuple[File, ...]
 
     def text(self) -> str:
-        head = [f"kit {self.kit}", f"commit {self.commit}", *(f"crate {line}" for line in self.uses)]
-        files = [f"program {self.program.line()}", *(f"source {file.line()}" for file in self.sources)]
+        head = [
+            f"kit {self.kit}",
+            f"commit {self.commit}",
+            *(f"crate {line}" for line in self.uses),
+        ]
+        files = [
+            f"program {self.program.line()}",
+            *(f"source {file.line()}" for file in self.sources),
+        ]
         return "\n".join([*head, *files, ""])
 
 
@@ -123,7 +130,9 @@ class Checkout:
 
     def uses(self) -> tuple[str, ...]:
         libraries = self.libraries()
-        return tuple(f"{crate}: {' '.join(libraries.get(crate, []))}".strip() for crate in self.crates())
+        return tuple(
+            f"{crate}: {' '.join(libraries.get(crate, []))}".strip() for crate in self.crates()
+        )
 
     def folders(self) -> list[str]:
         """The folders of the sources, also those that don't exist."""
@@ -177,7 +186,9 @@ class Checkout:
             return False
         # If the folder can't be written, each call reads the stamp.
         with contextlib.suppress(OSError):
-            self.out.joinpath(f"{self.crate}.names").write_text("".join(f"{name}\0" for name in watched))
+            self.out.joinpath(f"{self.crate}.names").write_text(
+                "".join(f"{name}\0" for name in watched)
+            )
             self.out.joinpath(f"{self.crate}.times").write_text(times)
         return True
 
@@ -212,7 +223,8 @@ class Checkout:
 
         Both leave a file that is older than the end of their work and newer than its start. No source has changed since if no
         inode has: that time can't be set back, unlike those of a checkout or a copy. The kit of that build is recorded nowhere,
-        and another one may have been installed since. So the stamp has UNRECORDED, and the kit that is installed at this call."""
+        and another one may have been installed since. So the stamp has UNRECORDED, and the kit that is installed at this call.
+        """
         begun = self.begun_by_rt()
         if begun is None or self.last_change() >= begun:
             return False
@@ -267,7 +279,9 @@ def said_by(words: list[str], top: Path) -> str:
 def commit_of(top: Path) -> str:
     """The commit of a checkout, with a remark if its crates have changes."""
     commit = said_by(["git", "rev-parse", "--short=12", "HEAD"], top)
-    changes = said_by(["git", "--no-optional-locks", "status", "--porcelain", "--", "crates", "crates.txt"], top)
+    changes = said_by(
+        ["git", "--no-optional-locks", "status", "--porcelain", "--", "crates", "crates.txt"], top
+    )
     return (commit or "unknown") + (" with changes" if commit and changes else "")
 
 

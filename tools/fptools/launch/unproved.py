@@ -49,7 +49,9 @@ class Handed:
             return self.add(file)
         text = Path(file).read_text(encoding="utf-8-sig")
         name = self.add(image)
-        renamed = re.sub(r"""(?m)^(\s*image\s*=\s*)(".*?"|'.*?')""", rf'\g<1>"{name}"', text, count=1)
+        renamed = re.sub(
+            r"""(?m)^(\s*image\s*=\s*)(".*?"|'.*?')""", rf'\g<1>"{name}"', text, count=1
+        )
         copy = self.folder / f"setup{len(self.data)}.toml"
         copy.write_text(renamed)
         if image_of(copy) != name:
@@ -76,7 +78,9 @@ def hand_over(words: list[str], folder: Path) -> Handed:
             waiting = "" if sign else option
         elif not subject_seen and word in files:
             subject_seen = True
-            handed.words.append(handed.add_setup(word) if files[word] == "setup" else handed.add(word))
+            handed.words.append(
+                handed.add_setup(word) if files[word] == "setup" else handed.add(word)
+            )
         else:
             handed.words.append(word)
     return handed
@@ -112,7 +116,11 @@ def run(script: str, checkout: Checkout, words: list[str]) -> int:
             handed = hand_over(words, folder)
         else:
             handed, into = hand_over_view(words, folder)
-        print(f"{script}: nothing of this answer is proved; it takes about a minute", file=sys.stderr, flush=True)
+        print(
+            f"{script}: nothing of this answer is proved; it takes about a minute",
+            file=sys.stderr,
+            flush=True,
+        )
         with open(into, "wb") if into else open(1, "wb", closefd=False) as out:
             status, said = try_program(checkout, handed, out)
     sys.stderr.write("".join(f"{line}\n" for line in said.splitlines() if not OWN_LINE.match(line)))
@@ -129,5 +137,9 @@ def try_program(checkout: Checkout, handed: Handed, out: BinaryIO) -> tuple[int,
     ended = ENDED.search(ran.stderr)
     if ended and int(ended[1]) == ran.returncode:
         return ran.returncode, ran.stderr
-    lines = [line for line in ran.stderr.splitlines() if line.strip()] or [f"status {ran.returncode}"]
-    raise NotBuilt(f"no answer: rt try gives up after {SECONDS} seconds or {MOST_OUTPUT} bytes of output ({lines[-1][:200]})")
+    lines = [line for line in ran.stderr.splitlines() if line.strip()] or [
+        f"status {ran.returncode}"
+    ]
+    raise NotBuilt(
+        f"no answer: rt try gives up after {SECONDS} seconds or {MOST_OUTPUT} bytes of output ({lines[-1][:200]})"
+    )

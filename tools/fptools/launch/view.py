@@ -13,7 +13,14 @@ MOST_COLUMNS = 2000
 """The most cycles of a picture."""
 
 FORMS = ("konata", "vcd", "svg")
-OPTIONS = {"from": "CYCLE", "to": "CYCLE", "konata": "FILE", "vcd": "FILE", "svg": "FILE", "progress": "UNTIL"}
+OPTIONS = {
+    "from": "CYCLE",
+    "to": "CYCLE",
+    "konata": "FILE",
+    "vcd": "FILE",
+    "svg": "FILE",
+    "progress": "UNTIL",
+}
 
 
 def unknown_option(word: str) -> str:
@@ -46,7 +53,9 @@ def parse(words: Sequence[str]) -> Asked:
 
 def look_at_value(option: str, value: str) -> None:
     """Raises a Fault if the value of an option isn't allowed."""
-    if OPTIONS[option] == "CYCLE" and not (value.isascii() and value.isdigit() and int(value) <= MOST_CYCLE):
+    if OPTIONS[option] == "CYCLE" and not (
+        value.isascii() and value.isdigit() and int(value) <= MOST_CYCLE
+    ):
         raise Fault(f"--{option} {value}: a cycle is decimal, at most {MOST_CYCLE}")
     if option == "progress" and value not in ("before", "all"):
         raise Fault(f"--progress {value}: it is before or all")
@@ -54,7 +63,10 @@ def look_at_value(option: str, value: str) -> None:
 
 def missing(asked: Asked) -> str | None:
     """The fault of a part that is missing or given twice, or None."""
-    absent = [*([] if asked.subjects else ["SETUP"]), *(f"--{one} CYCLE" for one in ("from", "to") if one not in asked.values)]
+    absent = [
+        *([] if asked.subjects else ["SETUP"]),
+        *(f"--{one} CYCLE" for one in ("from", "to") if one not in asked.values),
+    ]
     if absent:
         return f"turns needs {' and '.join(absent)}"
     if len(asked.subjects) > 1:

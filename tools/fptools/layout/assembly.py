@@ -84,7 +84,11 @@ class Instruction:
 def instruction(line: int, name: str, rest: str) -> Instruction:
     """Decodes a mnemonic and its operands. Raises Stays for an unknown one."""
     if name in STRAIGHT:
-        is_symbol = name[0] in "ls" and name[1:] in ("b", "h", "w", "bu", "hu") and SYMBOL_ACCESS.match(rest)
+        is_symbol = (
+            name[0] in "ls"
+            and name[1:] in ("b", "h", "w", "bu", "hu")
+            and SYMBOL_ACCESS.match(rest)
+        )
         return Instruction(Flow.ON, 2 * WORD if is_symbol else WORD)
     if name in LARGER:
         return Instruction(Flow.ON, _size_of_li(rest) if name == "li" else LARGER[name])
@@ -194,7 +198,9 @@ def with_names(given: Sequence[Statement]) -> list[Statement]:
         elif it.kind is Kind.CODE and not it.by_hand and (number := NUMBERED.search(it.rest)):
             onward = [at for at in places.get(number[1], ()) if (at > index) == (number[2] == "f")]
             if onward:
-                rest = it.rest[: number.start()] + name(onward[0] if number[2] == "f" else onward[-1])
+                rest = it.rest[: number.start()] + name(
+                    onward[0] if number[2] == "f" else onward[-1]
+                )
                 it = replace(it, rest=rest, text=f"\t{it.name}\t{rest}")
         found.append(it)
     return found
@@ -269,7 +275,9 @@ class Assembly:
             raise Fault(0, "it isn't assembly for RISC-V that gcc or clang wrote")
         for number, line in enumerate(self.lines, 1):
             if (arch := ARCH.match(line)) and not EXTENSION.fullmatch(arch[1]):
-                raise Fault(number, f"it is for {arch[1]}: compile with -march=rv32im_zicsr (clang: rv32im)")
+                raise Fault(
+                    number, f"it is for {arch[1]}: compile with -march=rv32im_zicsr (clang: rv32im)"
+                )
         self.labels = {it[1] for line in self.lines if (it := LABEL.match(line))}
 
     def _find(self) -> Iterator[Function]:
@@ -279,9 +287,13 @@ class Assembly:
             label = LABEL.match(self.lines[index])
             if label and label[1] in typed:
                 size = re.compile(rf"\s*\.size\s+{re.escape(label[1])}\s*,")
-                end = next((k for k in range(index, len(self.lines)) if size.match(self.lines[k])), None)
+                end = next(
+                    (k for k in range(index, len(self.lines)) if size.match(self.lines[k])), None
+                )
                 if end is None:
-                    raise Fault(index + 1, f"function {label[1]} has no `.size`: is the file whole?")
+                    raise Fault(
+                        index + 1, f"function {label[1]} has no `.size`: is the file whole?"
+                    )
                 yield Function(label[1], index, end)
                 index = end
             index += 1

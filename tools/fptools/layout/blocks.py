@@ -52,7 +52,9 @@ class Frame:
             lines.append(f"\t.cfi_def_cfa_offset {self.offset}")
         mine, others = dict(self.saved), dict(before.saved)
         lines += [f"\t.cfi_restore {register}" for register in others if register not in mine]
-        return lines + [f"\t.cfi_offset {it}, {at}" for it, at in mine.items() if others.get(it) != at]
+        return lines + [
+            f"\t.cfi_offset {it}, {at}" for it, at in mine.items() if others.get(it) != at
+        ]
 
 
 @dataclass(frozen=True)
@@ -119,7 +121,9 @@ class Block:
     def next_blocks(self) -> list[int]:
         """The successors: the branch's target first."""
         branch = [self.branch.to] if self.branch else []
-        return branch + ([self.onward] if self.onward is not None and self.onward not in branch else [])
+        return branch + (
+            [self.onward] if self.onward is not None and self.onward not in branch else []
+        )
 
     def lead_to(self, changed: dict[int, int]) -> None:
         """Replaces successors."""
@@ -156,7 +160,16 @@ HARMLESS = (
     ".weak",
     ".hidden",
 )
-SECTION = (".section", ".text", ".data", ".bss", ".pushsection", ".popsection", ".previous", ".subsection")
+SECTION = (
+    ".section",
+    ".text",
+    ".data",
+    ".bss",
+    ".pushsection",
+    ".popsection",
+    ".previous",
+    ".subsection",
+)
 RANGE_END = re.compile(r"\.L(BE|BBE)\d*$")
 """Labels at the end of a range of instructions. The function's own end stays there."""
 
@@ -283,7 +296,9 @@ class Reader:
         if "view" in more[:-1] and not more[more.index("view") + 1].startswith("."):
             at = more.index("view")
             del more[at : at + 2]
-        here = SourceLine(" ".join(numbers), "".join(f" {word}" for word in more), self.is_statement)
+        here = SourceLine(
+            " ".join(numbers), "".join(f" {word}" for word in more), self.is_statement
+        )
         self.source = here.again
         self.pending.append(Item(Part.LINE, "", it.line, source=here))
 
@@ -335,9 +350,13 @@ class Reader:
         block = self.block
         if made.flow in (Flow.ON, Flow.CALL):
             text = (
-                f"\tjal\t{made.target.removesuffix('@plt')}" if made.target and it.name == "call" else it.text
+                f"\tjal\t{made.target.removesuffix('@plt')}"
+                if made.target and it.name == "call"
+                else it.text
             )
-            block.items.append(Item(Part.CODE, text, it.line, size=WORD if made.target else made.size))
+            block.items.append(
+                Item(Part.CODE, text, it.line, size=WORD if made.target else made.size)
+            )
             return
         self.is_ended = True
         if made.flow is Flow.BRANCH:
@@ -425,7 +444,9 @@ def skip_jumps(blocks: list[Block]) -> set[int]:
     changed = {}
     for index in range(len(blocks)):
         to, seen = index, {index}
-        while (onward := blocks[to].onward) is not None and blocks[to].is_jump and onward not in seen:
+        while (
+            (onward := blocks[to].onward) is not None and blocks[to].is_jump and onward not in seen
+        ):
             to = onward
             seen.add(to)
         changed[index] = to

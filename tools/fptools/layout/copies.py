@@ -36,10 +36,13 @@ def split_entries(blocks: list[Block], most: int) -> bool:
             left -= sum(_length(blocks[index]) for index in it.behind)
             line = blocks[it.block].line
             if any(blocks[index].marks for index in it.behind):
-                raise Stays(line, "a loop is entered at two places, and a mark is behind one of them")
+                raise Stays(
+                    line, "a loop is entered at two places, and a mark is behind one of them"
+                )
             if left < 0:
                 raise Stays(
-                    line, f"a loop is entered at two places, and copies of {most} instructions don't end that"
+                    line,
+                    f"a loop is entered at two places, and copies of {most} instructions don't end that",
                 )
             _copy(blocks, flows, it)
     return is_changed
@@ -61,7 +64,9 @@ def _second_entries(flows: Flows) -> Iterator[Entry]:
                 head = _best_head(flows, inside, entries)
                 others = [it for it in entries if it != head]
                 if others:
-                    yield Entry(others[0], inside, sorted(_before_head(flows, inside, others[:1], head)))
+                    yield Entry(
+                        others[0], inside, sorted(_before_head(flows, inside, others[:1], head))
+                    )
                 else:
                     ahead.append(part.subgraph(inside - {head}))
 
@@ -84,7 +89,11 @@ def _before_head(flows: Flows, inside: set[int], entries: list[int], head: int) 
     """The blocks of a loop that entries reach before a head."""
     seen, ahead = set(entries), list(entries)
     while ahead:
-        new = {it for it in flows.next_blocks[ahead.pop()] if it in inside and it != head and it not in seen}
+        new = {
+            it
+            for it in flows.next_blocks[ahead.pop()]
+            if it in inside and it != head and it not in seen
+        }
         seen |= new
         ahead += sorted(new)
     return seen

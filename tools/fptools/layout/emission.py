@@ -91,7 +91,11 @@ def mark_far(blocks: Sequence[Block], order: Sequence[int], ends: Sequence[End])
             places.append(at)
             at += end.size
         for place, end in zip(places, ends):
-            if end.branch and not end.is_far and abs(starts[end.branch.to] - place) > BRANCH_REACH - WORD:
+            if (
+                end.branch
+                and not end.is_far
+                and abs(starts[end.branch.to] - place) > BRANCH_REACH - WORD
+            ):
                 end.is_far = is_changed = True
     return any(end.is_far for end in ends)
 
@@ -104,7 +108,9 @@ class Writer:
     names: Names
     is_statement: bool  # the flag of the line table before the function
     lines: list[str] = field(default_factory=list)
-    origins: dict[int, Origin] = field(default_factory=dict)  # of the instructions, by the indices of their lines
+    origins: dict[int, Origin] = field(
+        default_factory=dict
+    )  # of the instructions, by the indices of their lines
     source: SourceLine | None = None
     frame: Frame = Frame()
     by_hand: bool = False
@@ -128,7 +134,9 @@ class Writer:
     @staticmethod
     def _named(end: End) -> list[int]:
         """The blocks whose label an end needs."""
-        return ([end.branch.to] if end.branch else []) + ([end.jump] if end.jump is not None else [])
+        return ([end.branch.to] if end.branch else []) + (
+            [end.jump] if end.jump is not None else []
+        )
 
     def _put(self, text: str, by_hand: bool = False, origin: Origin = ()) -> None:
         self._asm(by_hand)
@@ -178,7 +186,11 @@ class Writer:
             self._to_line(item.source)
         elif item.part is Part.FRAME and item.frame:
             self._to_frame(item.frame)
-        elif not (self.body.lost_frame and item.text.split()[0] not in KEPT_OF_LOST and ".cfi" in item.text):
+        elif not (
+            self.body.lost_frame
+            and item.text.split()[0] not in KEPT_OF_LOST
+            and ".cfi" in item.text
+        ):
             self._put(item.text, item.by_hand, (item.line,) * (item.part is Part.CODE))
 
     def _to_line(self, source: SourceLine) -> None:
@@ -221,7 +233,9 @@ class Writer:
         target = self.body.blocks[to]
         if target.frame:
             self._to_frame(target.frame)
-        own = [branch.line for branch in [block.branch] if branch] or [it.line for it in block.code[-1:]]
+        own = [branch.line for branch in [block.branch] if branch] or [
+            it.line for it in block.code[-1:]
+        ]
         self._put(f"\tj\t{label}", origin=(*own, *self._first(to)))
 
     def _first(self, index: int) -> Origin:

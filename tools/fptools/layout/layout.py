@@ -5,14 +5,33 @@ import re
 from collections.abc import Sequence
 from dataclasses import dataclass, field
 
-from fptools.layout.assembly import TRAPS, Assembly, Fault, Function, Kind, Statement, Stays, source_of, statements
+from fptools.layout.assembly import (
+    TRAPS,
+    Assembly,
+    Fault,
+    Function,
+    Kind,
+    Statement,
+    Stays,
+    source_of,
+    statements,
+)
 from fptools.layout.blocks import Block, Body, body_of, skip_jumps
 from fptools.layout.copies import rotate, split_ends, split_entries
 from fptools.layout.debug_cells import Unread
 from fptools.layout.debug_ranges import Debugged, Moved, Origin
 from fptools.layout.emission import Names, Writer, as_compiled, ends_of, mark_far
 from fptools.layout.loop_marks import check_marks, with_records
-from fptools.layout.regions import MOST_AROUND, Flows, Irreducible, Loop, Nest, NoOrder, Order, Section
+from fptools.layout.regions import (
+    MOST_AROUND,
+    Flows,
+    Irreducible,
+    Loop,
+    Nest,
+    NoOrder,
+    Order,
+    Section,
+)
 from fptools.layout.same_flow import do_the_same
 
 MOST_COPIES = 2000
@@ -93,7 +112,9 @@ def partner(mark: str, marks: Sequence[str]) -> str | None:
 def _with_word(mark: str, begin: str, end: str) -> list[str]:
     """A mark's name with one word replaced."""
     words = re.split(r"(_)", mark)
-    return ["".join([*words[:k], end, *words[k + 1 :]]) for k, word in enumerate(words) if word == begin]
+    return [
+        "".join([*words[:k], end, *words[k + 1 :]]) for k, word in enumerate(words) if word == begin
+    ]
 
 
 @dataclass
@@ -105,7 +126,8 @@ class _Layout:
     def __post_init__(self) -> None:
         self.names = Names(self.assembly.labels)
         self.of_function = {
-            it.name: list(statements(self.assembly.body(it), it.first + 2)) for it in self.assembly.functions
+            it.name: list(statements(self.assembly.body(it), it.first + 2))
+            for it in self.assembly.functions
         }
         self.places: dict[str, tuple[str, int]] = {}
         for name, own in self.of_function.items():
@@ -115,17 +137,23 @@ class _Layout:
                         "the compiler doubled its place, by inlining or unrolling: __attribute__((noinline)) on the "
                         "functions between the marks, and no `continue` there, prevents that"
                     )
-                    raise Fault(it.line, f"mark {it.name} is also at line {self.places[it.name][1]}: {why}")
+                    raise Fault(
+                        it.line, f"mark {it.name} is also at line {self.places[it.name][1]}: {why}"
+                    )
                 self.places[it.name] = name, it.line
         self.flags = self._line_flags()
-        self.origins: dict[str, dict[int, Origin]] = {}  # of the instructions of the functions that were written
+        self.origins: dict[
+            str, dict[int, Origin]
+        ] = {}  # of the instructions of the functions that were written
 
     def _line_flags(self) -> dict[str, bool]:
         """The line table's flag `is_stmt` before each function."""
         flags, first, flag = {}, 0, True
         for function in self.assembly.functions:
             for line in self.assembly.lines[first : function.first]:
-                if "is_stmt" in line and (found := re.match(r"\s*\.loc\b.*\bis_stmt\s+([01])", line)):
+                if "is_stmt" in line and (
+                    found := re.match(r"\s*\.loc\b.*\bis_stmt\s+([01])", line)
+                ):
                     flag = found[1] == "1"
             flags[function.name], first = flag, function.first
         return flags
@@ -140,7 +168,9 @@ class _Layout:
             try:
                 lines = self._function(function, sections.get(function.name, []))
             except Stays as why:
-                self.laid.kept.append(Message(why.line, f"{function.name} stays as it is: {why.why}"))
+                self.laid.kept.append(
+                    Message(why.line, f"{function.name} stays as it is: {why.why}")
+                )
                 lines = self.assembly.body(function)
                 self.origins.pop(function.name, None)
             if function.name in self.origins:
@@ -165,7 +195,9 @@ class _Layout:
         own = self.of_function[function.name]
         labels = {it.name: it.line for it in own if it.kind is Kind.LABEL}
         code = [it.line for it in own if it.kind is Kind.CODE]
-        return Moved(labels, code, {first + index: it for index, it in self.origins[function.name].items()})
+        return Moved(
+            labels, code, {first + index: it for index, it in self.origins[function.name].items()}
+        )
 
     # ------------------------------------------------------------ sections
 
@@ -223,7 +255,9 @@ class _Layout:
             if section.end == loop.head:
                 return f"crosses a loop: it ends at the head of {self._place(body, loop)}, inside which it begins"
             if any(loop.head in nest.flows.next_blocks[index] for index in section.blocks):
-                return f"crosses a loop: {self._place(body, loop)} goes round without passing its end"
+                return (
+                    f"crosses a loop: {self._place(body, loop)} goes round without passing its end"
+                )
         for loop in ends_in:
             if loop not in begins_in and section.end != loop.head:
                 return f"crosses a loop: it begins outside and ends inside of {self._place(body, loop)}"
@@ -241,7 +275,9 @@ class _Layout:
         """The lines of a function's body in the new order.
 
         Copies of tests may make others possible, so this repeats until nothing changes."""
-        lines = self._once(function, self.of_function[function.name], self.assembly.body(function), marks)
+        lines = self._once(
+            function, self.of_function[function.name], self.assembly.body(function), marks
+        )
         for _ in range(MOST_PASSES if self.options.rotate else 0):
             notes = list(self.laid.notes)
             again = self._once(function, list(statements(lines, function.first + 2)), lines, marks)
@@ -270,8 +306,13 @@ class _Layout:
         order = [index for index in self._order(body, marks) if index not in left_out]
         return self._written(function, compiled, body, order)
 
-    def _found_sections(self, body: Body, nest: Nest, marks: list[Marks]) -> list[tuple[Marks, Section]]:
-        found = [(it, self._section(nest, body, it)) for it in self._with_guesses(body, nest.flows, marks)]
+    def _found_sections(
+        self, body: Body, nest: Nest, marks: list[Marks]
+    ) -> list[tuple[Marks, Section]]:
+        found = [
+            (it, self._section(nest, body, it))
+            for it in self._with_guesses(body, nest.flows, marks)
+        ]
         return [(it, section) for it, section in found if section]
 
     @staticmethod
@@ -279,7 +320,9 @@ class _Layout:
         try:
             return Nest(Flows(body.blocks))
         except Irreducible:
-            raise Fault(body.blocks[0].line, f"a loop has two entries after copies: {OWN_FAULT}") from None
+            raise Fault(
+                body.blocks[0].line, f"a loop has two entries after copies: {OWN_FAULT}"
+            ) from None
 
     def _note(
         self, function: Function, body: Body, nest: Nest, sections: list[tuple[Marks, Section]]
@@ -288,12 +331,17 @@ class _Layout:
         for loop in nest.loops.values():
             inside = [section.blocks for _, section in sections if loop.blocks <= section.blocks]
             depth = min(
-                (sum(it.blocks <= blocks for it in nest.around(loop.head)) - 1 for blocks in inside),
+                (
+                    sum(it.blocks <= blocks for it in nest.around(loop.head)) - 1
+                    for blocks in inside
+                ),
                 default=loop.depth,
             )
             if depth == MOST_AROUND + 1:
                 text = f"{self._place(body, loop)} lies in {depth} others, and a bound takes {MOST_AROUND}"
-                self.laid.notes.append(Message(body.blocks[loop.head].line, f"{function.name}: {text}"))
+                self.laid.notes.append(
+                    Message(body.blocks[loop.head].line, f"{function.name}: {text}")
+                )
         for marks, section in sections:
             stops = [stop for index in section.blocks if (stop := body.blocks[index].stop)]
             for stop in stops if not marks.is_guess else []:
@@ -322,39 +370,50 @@ class _Layout:
     def _order(self, body: Body, marks: list[Marks]) -> list[int]:
         """The order of the blocks. Raises Fault where there is none.
 
-        Sections may get copies of the blocks that don't reach their end. Then guesses are dropped."""
+        Sections may get copies of the blocks that don't reach their end. Then guesses are dropped.
+        """
         for is_sure in (False, True):
             nest = self._nest(body)
             sections = [
-                it for it in self._found_sections(body, nest, marks) if not (is_sure and it[0].is_guess)
+                it
+                for it in self._found_sections(body, nest, marks)
+                if not (is_sure and it[0].is_guess)
             ]
             for _ in range(len(sections) + 1):
                 try:
                     order = Order(nest, [section for _, section in sections]).made()
                     return order + [
-                        index for index in range(len(body.blocks)) if index not in nest.flows.reached
+                        index
+                        for index in range(len(body.blocks))
+                        if index not in nest.flows.reached
                     ]
                 except NoOrder:
-                    if not any(split_ends(body.blocks, it, self.options.most_copies) for _, it in sections):
+                    if not any(
+                        split_ends(body.blocks, it, self.options.most_copies) for _, it in sections
+                    ):
                         break
                     nest = self._nest(body)
                     wanted = {str(it) for it, _ in sections}
-                    sections = [it for it in self._found_sections(body, nest, marks) if str(it[0]) in wanted]
+                    sections = [
+                        it for it in self._found_sections(body, nest, marks) if str(it[0]) in wanted
+                    ]
         names = " and ".join(str(it) for it, _ in sections)
         line = self.places[sections[0][0].first][1]
         raise Fault(line, f"no order of blocks has the code of {names} between the marks")
 
-    def _written(self, function: Function, compiled: list[Block], body: Body, order: list[int]) -> list[str]:
+    def _written(
+        self, function: Function, compiled: list[Block], body: Body, order: list[int]
+    ) -> list[str]:
         """Writes the blocks in an order, reads the lines again, and compares them with the compiler's."""
         ends = ends_of(body.blocks, order)
         mark_far(body.blocks, order, ends)
         size = sum(body.blocks[index].size + end.size for index, end in zip(order, ends))
         if size >= MOST_BYTES:
-            raise Stays(function.first + 1, f"it takes {size} bytes, and a jump reaches {MOST_BYTES}")
-        if body.lost_frame:
-            text = (
-                f"{function.name}: its call frames are lost for a debugger: `{body.lost_frame}` isn't known"
+            raise Stays(
+                function.first + 1, f"it takes {size} bytes, and a jump reaches {MOST_BYTES}"
             )
+        if body.lost_frame:
+            text = f"{function.name}: its call frames are lost for a debugger: `{body.lost_frame}` isn't known"
             self.laid.notes.append(Message(function.first + 1, text))
         flag = self.flags[function.name]
         writer = Writer(body, self.names, flag)

@@ -53,9 +53,7 @@ OPENS = re.compile(r"\.(if\w*|macro|rept|irpc?)$")
 CLOSES = re.compile(r"\.end(if|m|r)$")
 """Directives around statements that the assembler may leave out or repeat."""
 
-HIDES = re.compile(
-    r"\.(if\w*|else\w*|end(if|m|r)|macro|altmacro|purgem|rept|irpc?|include)$"
-)
+HIDES = re.compile(r"\.(if\w*|else\w*|end(if|m|r)|macro|altmacro|purgem|rept|irpc?|include)$")
 """With such a directive other statements may not be what they seem."""
 
 UNKNOWN = "?"

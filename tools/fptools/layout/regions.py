@@ -102,7 +102,9 @@ class Nest:
         dominators = Dominators(Graph(self.flows.edges(), [0]), 0)
         self.back_edges = {it for it in self.flows.edges() if dominators.has(it[1], it[0])}
         self._refuse_irreducible()
-        self.loops = {head: Loop(head, {head}) for head in sorted({head for _, head in self.back_edges})}
+        self.loops = {
+            head: Loop(head, {head}) for head in sorted({head for _, head in self.back_edges})
+        }
         for last, head in self.back_edges:
             self._grow(self.loops[head].blocks, last)
         self.innermost = {}
@@ -166,15 +168,22 @@ class Nest:
         All edges but back edges lead onward, each loop is an interval that is entered only at its head, and sections
         are between their marks."""
         rank = {index: k for k, index in enumerate(sorted(self.flows.reached))}
-        if any(to <= index and (index, to) not in self.back_edges for index, to in self.flows.edges()):
+        if any(
+            to <= index and (index, to) not in self.back_edges for index, to in self.flows.edges()
+        ):
             return False
         if not all(max(it.blocks) < it.end and it.first == min(it.blocks) for it in sections):
             return False
-        spans = [Span(rank[it.head], max(rank[k] for k in it.blocks), it.depth) for it in self.loops.values()]
+        spans = [
+            Span(rank[it.head], max(rank[k] for k in it.blocks), it.depth)
+            for it in self.loops.values()
+        ]
         around = _spans_around(spans, len(rank))
         if any(min(it.blocks) != it.head for it in self.loops.values()) or around is None:
             return False
-        return not any(_enters(around[rank[to]], rank[index], rank[to]) for index, to in self.flows.edges())
+        return not any(
+            _enters(around[rank[to]], rank[index], rank[to]) for index, to in self.flows.edges()
+        )
 
 
 @dataclass
@@ -192,7 +201,11 @@ def _spans_around(spans: Iterable[Span], count: int) -> list[Span | None] | None
     found: list[Span | None] = [None] * count
     for span in sorted(spans, key=lambda it: (it.head, -it.last)):
         span.around = found[span.head]
-        if span.around and span.last > span.around.last or _depth(span) > max(span.depth, MOST_AROUND):
+        if (
+            span.around
+            and span.last > span.around.last
+            or _depth(span) > max(span.depth, MOST_AROUND)
+        ):
             return None
         found[span.head : span.last + 1] = [span] * (span.last + 1 - span.head)
     return found
@@ -213,7 +226,8 @@ class Order:
     """Orders the blocks of a function.
 
     All edges but back edges lead onward. The blocks of a loop are together, its head first. Those of a section are
-    between its marks. Within these rules a block keeps its successor of the compiler's order where it can."""
+    between its marks. Within these rules a block keeps its successor of the compiler's order where it can.
+    """
 
     def __init__(self, nest: Nest, sections: Iterable[Section]) -> None:
         self.nest, self.flows = nest, nest.flows
@@ -287,7 +301,9 @@ class Order:
             raise NoOrder
         return done
 
-    def _pick(self, ready: set[int], queue: list[tuple[int, int]], head: int | None, last: int) -> int:
+    def _pick(
+        self, ready: set[int], queue: list[tuple[int, int]], head: int | None, last: int
+    ) -> int:
         """The next member: a successor of the last block, the one that follows it first; else the compiler's first."""
         for to in reversed(self.flows.next_blocks[last]):
             if (member := self._member(to, head)) in ready:

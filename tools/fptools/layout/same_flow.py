@@ -60,7 +60,8 @@ class Code:
 def do_the_same(before: Sequence[Block], after: Sequence[Block]) -> bool:
     """Whether both execute the same instructions, whatever the branches decide.
 
-    Compared are all paths from the first block, from each mark, and from each label that both have."""
+    Compared are all paths from the first block, from each mark, and from each label that both have.
+    """
     one, other = Code(before), Code(after)
     if any(not block.marks <= other.at.keys() for block in before):
         return False
@@ -83,14 +84,20 @@ def _onward(one: Code, other: Code, a: Place, b: Place) -> list[tuple[Place, Pla
     text, other_text = one.text(a), other.text(b)
     if text is not None or other_text is not None:
         same = text == other_text
-        return [(one.settled(a.block, a.done + 1), other.settled(b.block, b.done + 1))] if same else None
+        return (
+            [(one.settled(a.block, a.done + 1), other.settled(b.block, b.done + 1))]
+            if same
+            else None
+        )
     branch, other_branch = one.branch(a), other.branch(b)
     if branch is None or other_branch is None:
         return [] if branch is other_branch is None and one.stop(a) == other.stop(b) else None
     if branch.compared.split() != other_branch.compared.split():
         return None
     taken, passed = one.settled(branch.to), one.settled(one.blocks[a.block].onward)
-    other_taken, other_passed = other.settled(other_branch.to), other.settled(other.blocks[b.block].onward)
+    other_taken, other_passed = other.settled(other_branch.to), other.settled(
+        other.blocks[b.block].onward
+    )
     if branch.name == other_branch.name:
         return [(taken, other_taken), (passed, other_passed)]
     if INVERSE[branch.name] == other_branch.name:

@@ -8,6 +8,7 @@ from dataclasses import dataclass, field, replace
 from typing import Sequence, Union
 
 from fptools.period.branch_values import Facts, joined_value
+
 from fptools.period.moment_values import (
     LOW, TWICE, At, Carry, High, Known, Linear, Words, number_of, sum_of,
 )  # fmt: skip

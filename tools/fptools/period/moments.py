@@ -12,6 +12,7 @@ from typing import Mapping
 from fptools.code.kept import STACK_POINTER, WORD_SIZE, Called, Effects
 
 from fptools.period.branch_values import forms
+
 from fptools.period.moment_values import (
     LOW, Behind, High, Linear, LowOf, Moment, Rebase, moment_of, number, number_of,
     range_of_value, result_of,

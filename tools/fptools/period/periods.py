@@ -353,9 +353,7 @@ class Periods:
         """The budget of a period whose length is read off the code."""
         if not self.of.is_read or ns is None:
             return budget
-        return replace(
-            budget, cycles=ns // self.judge.setup.period, period=replace(self.of, ns=ns)
-        )
+        return replace(budget, cycles=ns // self.judge.setup.period, period=replace(self.of, ns=ns))
 
     def _assumed(self, pairs: Sequence[Pair], asked: Asked, ns: int | None) -> list[str]:
         """What is assumed of the moments, with the reasons as notes."""

@@ -154,9 +154,7 @@ def sides_of(word: Word, state: State) -> tuple[Sum, Sum] | None:
     return None if one is None or other is None else (one, other)
 
 
-def left_at(
-    unfolded: Unfolded, place: Place, step: Step, to: Place, state: State
-) -> Left | None:
+def left_at(unfolded: Unfolded, place: Place, step: Step, to: Place, state: State) -> Left | None:
     """How often a loop has gone back when it is left at a branch that each round passes."""
     sides = sides_of(step.word, state)
     if sides is None:

@@ -47,11 +47,15 @@ class Flexpret:
     """The program by its name."""
 
     path: str
-    _told: set[str] = field(default_factory=set, compare=False, repr=False)  # lines of standard error
+    _told: set[str] = field(
+        default_factory=set, compare=False, repr=False
+    )  # lines of standard error
 
     @classmethod
     def named(cls, path: str | None) -> Flexpret:
-        return cls(path or os.environ.get("FLEXPRET") or (str(BESIDE) if BESIDE.is_file() else "flexpret"))
+        return cls(
+            path or os.environ.get("FLEXPRET") or (str(BESIDE) if BESIDE.is_file() else "flexpret")
+        )
 
     def ask(self, *words: str) -> Answer:
         """The answer to a command. What standard error says besides an answer is handed on, each line once."""
@@ -68,7 +72,9 @@ class Flexpret:
         return self.ask("bound", str(setup), *_section(thread, start, end))
 
     def calls(self, setup: Path, thread: int, start: int, end: int, routines: Path) -> Answer:
-        return self.ask("calls", str(setup), *_section(thread, start, end), "--routines", str(routines))
+        return self.ask(
+            "calls", str(setup), *_section(thread, start, end), "--routines", str(routines)
+        )
 
 
 def _section(thread: int, start: int, end: int) -> list[str]:

@@ -37,15 +37,24 @@ BOUND_HINTS = {
     "-fno-ipa-icf, or correct the function's last word in the list",
 }
 SECTION_HINTS = {
-    "NotHard": ("mode", 'a bound and `solo` are of a thread that starts hard and awake: mode = "hard"'),
+    "NotHard": (
+        "mode",
+        'a bound and `solo` are of a thread that starts hard and awake: mode = "hard"',
+    ),
     "NoSlot": ("slots", "no slot is the thread's: give it one"),
-    "Order": (None, "--to isn't above --from: the section is the words from --from up to below --to"),
+    "Order": (
+        None,
+        "--to isn't above --from: the section is the words from --from up to below --to",
+    ),
     "Misaligned": (None, "both addresses are multiples of 4"),
     "Outside": (
         None,
         "the section ends past the instruction scratchpad; `version = 2` in the setup has 65,536 bytes",
     ),
-    "NotConfined": ("confined", "others may have a part in its trace: `confined = true`, or use `run`"),
+    "NotConfined": (
+        "confined",
+        "others may have a part in its trace: `confined = true`, or use `run`",
+    ),
 }
 SETUP_HINTS = {
     "TooLong": "the file has more than 262,144 bytes: shorten comments and inputs",
@@ -53,7 +62,7 @@ SETUP_HINTS = {
     "UnknownKey": "this table has an unknown key: correct the spelling, and move the keys of the top above the first "
     "[[thread]] or [[loop]]",
     "MissingKey": "this key is required: add it",
-    "WrongType": "the value has another type: 10 and not \"10\", [[thread]] with two brackets, inputs as "
+    "WrongType": 'the value has another type: 10 and not "10", [[thread]] with two brackets, inputs as '
     "[cycle, word]",
     "OutOfRange": "the value isn't in its range: a list has eight elements, addresses are multiples of 4 and need "
     "`version = 2` above 16,380, input cycles rise, `last` isn't below `head`",
@@ -172,7 +181,9 @@ def _bound(refusal: Refusal, context: Context) -> Iterator[str]:
     if name == "UnboundedBackEdge":
         yield from _table_for(at, bits)
     if context.setup is not None and name in ("Nesting", "UnboundedBackEdge"):
-        yield from _tables(context.setup, at, Word(at, bits).target if name == "UnboundedBackEdge" else at)
+        yield from _tables(
+            context.setup, at, Word(at, bits).target if name == "UnboundedBackEdge" else at
+        )
 
 
 def _place(at: int, bits: int, name: str, context: Context) -> Iterator[str]:
@@ -199,7 +210,9 @@ def _indirect(bits: int) -> str:
             "a call through a register: call the function by its name; assemble what clang -S writes by GNU "
             "as, and link with relaxation"
         )
-    return "a jump through a register: a switch by a table (-fno-jump-tables), a tail call by pointer"
+    return (
+        "a jump through a register: a switch by a table (-fno-jump-tables), a tail call by pointer"
+    )
 
 
 def _table_for(at: int, bits: int) -> Iterator[str]:
@@ -251,13 +264,17 @@ def _setup(refusal: Refusal, context: Context) -> Iterator[str]:
 def key_of(place: str) -> KeyPath:
     """The path that `spelled` writes as this text, or the empty path for `-` and `top`."""
     parts = re.findall(r"[A-Za-z_]\w*|\d+", place)
-    return () if place in ("-", "top") else tuple(int(part) if part.isdecimal() else part for part in parts)
+    return (
+        ()
+        if place in ("-", "top")
+        else tuple(int(part) if part.isdecimal() else part for part in parts)
+    )
 
 
 def _section(refusal: Refusal, context: Context) -> Iterator[str]:
     key, hint = SECTION_HINTS[refusal.name]
     if refusal.name == "NotHard" and _lacks_thread(context):
-        hint = f"no [[thread]] has id = {context.thread}: it starts asleep; add a table with mode = \"hard\" and an entry"
+        hint = f'no [[thread]] has id = {context.thread}: it starts asleep; add a table with mode = "hard" and an entry'
     where = _key_line(context, key) if key else None
     thread = "" if context.thread is None else f"T{context.thread}: "
     yield f"{where}: error: {thread}{hint}" if where else f"error: {thread}{hint}"

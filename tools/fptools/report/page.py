@@ -311,7 +311,11 @@ class Page:
         for it in self.findings.observations:
             found += [text.unknown(it, one) for one in it.doubts]
             # A budget that is over says so itself, and that an execution didn't end is of the run.
-            found += [text.broken(it, one) for one in it.breaks if one.kind is not Kind.BUDGET or one.doubt]
+            found += [
+                text.broken(it, one)
+                for one in it.breaks
+                if one.kind is not Kind.BUDGET or one.doubt
+            ]
             found += [
                 f"T{it.question.thread} {one.watched.name}: {silence_text(silent)}"
                 for one in it.executions

@@ -89,7 +89,9 @@ class Seen:
     leaves: list[Place] = field(default_factory=list)  # neither inside nor at the end
     stops: list[tuple[int, str]] = field(default_factory=list)
     callees: set[int] = field(default_factory=set)
-    loops: dict[int, set[int]] = field(default_factory=dict)  # the words of natural loops, by their heads
+    loops: dict[int, set[int]] = field(
+        default_factory=dict
+    )  # the words of natural loops, by their heads
     backward: list[Place] = field(default_factory=list)  # by addresses, but back to no head
     reaches_end: bool = False
     is_reducible: bool = True
@@ -99,8 +101,13 @@ class Seen:
         if not self.is_reducible:
             return [], "a loop is entered at two places"
         if self.backward:
-            return [], "a step back that is no loop's: " + ", ".join("%x to %x" % it for it in self.backward)
-        lasts = {head: max(words & set(self.graph.predecessors(head))) for head, words in self.loops.items()}
+            return [], "a step back that is no loop's: " + ", ".join(
+                "%x to %x" % it for it in self.backward
+            )
+        lasts = {
+            head: max(words & set(self.graph.predecessors(head)))
+            for head, words in self.loops.items()
+        }
         for head in sorted(lasts, reverse=True):
             lasts[head] = max(lasts[it] for it in lasts if it == head or head < it <= lasts[head])
         faults = [why for head, last in lasts.items() if (why := self._fault(head, last, lasts))]
@@ -143,7 +150,9 @@ def look(
     return seen
 
 
-def _steps(word: int, pc: int, callable: Collection[int], seen: Seen, is_function: bool) -> list[int]:
+def _steps(
+    word: int, pc: int, callable: Collection[int], seen: Seen, is_function: bool
+) -> list[int]:
     kind, to = flow(word, pc)
     if kind == "call" and word >> 7 & 31 == 1 and to[0] in callable:
         seen.callees.add(to[0])

@@ -28,7 +28,13 @@ VISITS = 4000
 
 RECIPE = ("-fno-jump-tables", "-fno-optimize-sibling-calls", "-fno-reorder-blocks-and-partition")
 GCC = ("riscv64-unknown-elf-gcc", "-march=rv32im_zicsr", "-mabi=ilp32")
-CLANG = ("clang", "--target=riscv32-unknown-elf", "-march=rv32im", "-mabi=ilp32", "-Wno-unknown-attributes")
+CLANG = (
+    "clang",
+    "--target=riscv32-unknown-elf",
+    "-march=rv32im",
+    "-mabi=ilp32",
+    "-Wno-unknown-attributes",
+)
 LINK = ("riscv64-unknown-elf-ld", "-m", "elf32lriscv", "-z", "max-page-size=4096")
 
 SETUP = """\
@@ -66,7 +72,13 @@ class Way:
         ).strip()
 
     def compiler(self) -> list[str]:
-        flags = [self.level, "-ffreestanding", "-fno-jump-tables", "-fno-optimize-sibling-calls", *self.more]
+        flags = [
+            self.level,
+            "-ffreestanding",
+            "-fno-jump-tables",
+            "-fno-optimize-sibling-calls",
+            *self.more,
+        ]
         flags += ["-I", str(DATA), "-I", str(TOP / "examples/c")] + ["-DSECTION"] * self.is_section
         flags += ["-DUNMARKED"] * (not self.is_marked)
         return [*CLANG, *flags] if self.is_clang else [*GCC, *flags, RECIPE[2]]
@@ -78,13 +90,19 @@ class Way:
 
 def run(command: Sequence[object], folder: Path | None = None) -> str:
     """What a command writes; an error where it fails."""
-    ran = subprocess.run([str(it) for it in command], cwd=folder, capture_output=True, text=True, check=False)
+    ran = subprocess.run(
+        [str(it) for it in command], cwd=folder, capture_output=True, text=True, check=False
+    )
     assert ran.returncode == 0, f"{' '.join(map(str, command))}\n{ran.stdout}{ran.stderr}"
     return ran.stdout
 
 
 def build(
-    folder: Path, way: Way, names: Iterable[str] = SHAPES, is_counted: bool = False, home: Path = DATA
+    folder: Path,
+    way: Way,
+    names: Iterable[str] = SHAPES,
+    is_counted: bool = False,
+    home: Path = DATA,
 ) -> Path:
     """An executable of shapes: an image of the machine, or with counted visits for qemu-riscv32."""
     folder.mkdir(parents=True, exist_ok=True)
@@ -114,7 +132,9 @@ def build(
     return out
 
 
-START = "        .globl start_{name}\nstart_{name}:\n        lui sp, 0x20010\n        j main_{name}\n"
+START = (
+    "        .globl start_{name}\nstart_{name}:\n        lui sp, 0x20010\n        j main_{name}\n"
+)
 """Where the machine begins with a shape: quick_run sets the stack itself."""
 
 
@@ -182,32 +202,44 @@ class Shape:
 
     executable: Executable
     name: str
-    parts: dict[int, Seen] = field(default_factory=dict)  # the section and the functions that it reaches
+    parts: dict[int, Seen] = field(
+        default_factory=dict
+    )  # the section and the functions that it reaches
 
     def __post_init__(self) -> None:
         symbols, functions = self.executable.symbols, self.executable.functions
         self.begin, self.end = symbols[f"{self.name}_begin"], symbols[f"{self.name}_end"]
         self.entry = functions[f"main_{self.name}"][0]
         self.start = symbols.get(f"start_{self.name}", self.entry)
-        ends = {first: end for first, end in self.executable.ends.items() if not first <= self.begin < end}
+        ends = {
+            first: end
+            for first, end in self.executable.ends.items()
+            if not first <= self.begin < end
+        }
         ahead = [(self.begin, self.end, False)]
         while ahead:
             first, end, is_function = ahead.pop()
             if first not in self.parts:
-                seen = self.parts[first] = look(self.executable.words, first, end, ends, is_function)
+                seen = self.parts[first] = look(
+                    self.executable.words, first, end, ends, is_function
+                )
                 ahead += [(callee, ends[callee], True) for callee in sorted(seen.callees)]
 
     @property
     def routines(self) -> list[Place]:
         """The first and last words of the functions that it calls."""
-        return sorted((it.first, it.end - 4) for it in self.parts.values() if it.first != self.begin)
+        return sorted(
+            (it.first, it.end - 4) for it in self.parts.values() if it.first != self.begin
+        )
 
     @property
     def faults(self) -> list[str]:
         """What the independent check finds: ways out, and loops that can't be stated."""
         found = []
         for seen in self.parts.values():
-            found += ["leaves: %x to %x" % it for it in seen.leaves] + ["%x: %s" % it for it in seen.stops]
+            found += ["leaves: %x to %x" % it for it in seen.leaves] + [
+                "%x: %s" % it for it in seen.stops
+            ]
             found += [seen.stated()[1]] if seen.stated()[1] else []
             found += [] if seen.reaches_end else ["%x never reaches its end" % seen.first]
         return found
@@ -225,7 +257,9 @@ class Shape:
 
     def ran(self, runner: Path, image: Path, visits: int = VISITS) -> Ran:
         command = [runner, image, self.entry, self.begin, self.end, visits]
-        fourth, each, digest, *rounds = run([*command, *(it for loop in self.loops for it in loop)]).split()
+        fourth, each, digest, *rounds = run(
+            [*command, *(it for loop in self.loops for it in loop)]
+        ).split()
         return Ran(int(fourth), int(each), digest, tuple(map(int, rounds)))
 
     def graph(self, rounds: Sequence[int]) -> Graph:

@@ -33,7 +33,9 @@ class Issue:
         return int(effect.split()[1]) if effect.startswith(b"trap ") else None
 
 
-def setup_text(image: str, slots: str = "T0 S S S D D D D", more: str = "", inputs: str = "[[0, 1]]") -> str:
+def setup_text(
+    image: str, slots: str = "T0 S S S D D D D", more: str = "", inputs: str = "[[0, 1]]"
+) -> str:
     """A setup of one hard thread, T0, which is confined."""
     frame = ", ".join(f'"{slot}"' for slot in slots.split())
     return (
@@ -66,7 +68,9 @@ def issues_of(setup: str, image: Image, cycles: int, thread: int = 0) -> list[Is
     found = []
     for cycle, turn in enumerate(machine.turns[: max(cycles - world.RETIRES, 0)]):
         if turn.kind is world.Kind.ISSUE and turn.thread == thread:
-            found.append(Issue(cycle, turn.pc, turn.word, turn.event.line() if turn.event else None))
+            found.append(
+                Issue(cycle, turn.pc, turn.word, turn.event.line() if turn.event else None)
+            )
     return found
 
 

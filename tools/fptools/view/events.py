@@ -8,7 +8,16 @@ import re
 from dataclasses import dataclass
 from typing import Iterator, Mapping, Sequence
 
-from fptools.files.trace_blocks import CYCLE, EFFECT, PC, PLACE, Block, class_of, span, trap_character
+from fptools.files.trace_blocks import (
+    CYCLE,
+    EFFECT,
+    PC,
+    PLACE,
+    Block,
+    class_of,
+    span,
+    trap_character,
+)
 from fptools.isa.disassembly import Disassembler
 from fptools.files.elf import CODE_END, Program
 from fptools.files.sources import Sources
@@ -38,7 +47,9 @@ class Filter:
         functions = [program.function(text) for text in asked.functions]
         near = sorted(pc for pc in pcs if pc < CODE_END)
         spans = "".join(span(it.start, it.end) + _trap_span(it.start, it.end) for it in functions)
-        classes = class_of(*near) + "".join(f"\\u{ord(trap_character(pc)):04x}" for pc in near) + spans
+        classes = (
+            class_of(*near) + "".join(f"\\u{ord(trap_character(pc)):04x}" for pc in near) + spans
+        )
         self._pattern = re.compile(f"[{classes}]") if classes else None
         self._stores = [b" [%08x]/" % address for address in asked.stores]
         self._traps, self._waits, self._overruns = asked.traps, asked.waits, asked.overruns
@@ -53,7 +64,9 @@ class Filter:
         if self._pattern is not None:
             found.update(it.start() for it in self._pattern.finditer(block.events))
         if self._far:
-            found.update(index for index, line in enumerate(block.lines) if int(line[PC], 16) in self._far)
+            found.update(
+                index for index, line in enumerate(block.lines) if int(line[PC], 16) in self._far
+            )
         if self._traps:
             found.update(block.traps)
         if self._waits:
@@ -67,7 +80,11 @@ class Filter:
 
 def _trap_span(start: int, end: int) -> str:
     end = min(end, CODE_END)
-    return f"\\u{ord(trap_character(start)):04x}-\\u{ord(trap_character(end - 4)):04x}" if start < end else ""
+    return (
+        f"\\u{ord(trap_character(start)):04x}-\\u{ord(trap_character(end - 4)):04x}"
+        if start < end
+        else ""
+    )
 
 
 def _lines_with(data: bytes, text: bytes) -> Iterator[int]:
@@ -92,7 +109,11 @@ class Columns:
         """The name of its address, its instruction, and its source line."""
         key = event.pc, event.bits, event.issues
         if key not in self._kept:
-            self._kept[key] = self.program.name_of(event.pc), self._instruction(event), self._source(event.pc)
+            self._kept[key] = (
+                self.program.name_of(event.pc),
+                self._instruction(event),
+                self._source(event.pc),
+            )
         return self._kept[key]
 
     def _instruction(self, event: Event) -> str:
@@ -132,7 +153,9 @@ class Form:
             bytes, tuple[str, str]
         ] = {}  # what is in the middle and at the end of a line, by its pc and word
 
-    def lines(self, block: Block, indexes: Sequence[int], late: Mapping[int, int | None]) -> list[str]:
+    def lines(
+        self, block: Block, indexes: Sequence[int], late: Mapping[int, int | None]
+    ) -> list[str]:
         """The lines of some events of a block; of late waits the nanoseconds, where they are known."""
         if self._kind != TEXT:
             line = self._json if self._kind == JSON else self._row
@@ -152,7 +175,10 @@ class Form:
         kept = self._kept.get(line[PLACE])
         if kept is None:
             at, instruction, source = self._columns.of(event_of(block, index))
-            kept = self._kept[line[PLACE]] = f"{line[PC].decode()} {at:<20} {instruction:<30}", source
+            kept = self._kept[line[PLACE]] = (
+                f"{line[PC].decode()} {at:<20} {instruction:<30}",
+                source,
+            )
         cycle = int(line[CYCLE])
         gap = cycle - int(before[CYCLE]) if before is not None else 0
         effect = line[EFFECT].decode()

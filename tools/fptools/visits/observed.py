@@ -30,7 +30,9 @@ from fptools.visits.visits import (
 PIPE_BYTES = 1 << 20
 DEFAULT_PERIOD = 10  # nanoseconds
 LOOKED_AT = 32  # events of a block that are compared with the turns
-RETIRES = 4  # cycles from an issue to its line: the issues of as many last cycles of a run have none
+RETIRES = (
+    4  # cycles from an issue to its line: the issues of as many last cycles of a run have none
+)
 
 
 class Kind(Enum):
@@ -85,7 +87,9 @@ class Question:
     loops: Sequence[LoopTable] = ()
     turns: Turns | None = None
     period: int = DEFAULT_PERIOD
-    code: Mapping[int, int] = field(default_factory=dict)  # the words of the image, where it is known
+    code: Mapping[int, int] = field(
+        default_factory=dict
+    )  # the words of the image, where it is known
     is_quiet: bool = True  # no thread may write slots, modes or regions
     cycles: int | None = None  # of the run, where that is known
     marks: Marks | None = None  # those of the loops
@@ -109,9 +113,7 @@ class Observation:
     claims: list[Passes] = field(default_factory=list)
     waits: list[Wait] = field(default_factory=list)
     traps: list[Trapped] = field(default_factory=list)
-    broken: str | None = (
-        None  # which line of the trace is broken, or that it was stopped; all before it was looked at
-    )
+    broken: str | None = None  # which line of the trace is broken, or that it was stopped; all before it was looked at
     foreign: str | None = None  # why the trace isn't of this image, or of this thread
 
     @property
@@ -124,7 +126,9 @@ class Observation:
             table = rounds.table
             if table.bound is not None and rounds.breaks:
                 cycle, most = max(rounds.breaks, key=lambda it: (it[1], -it[0]))
-                yield Break(Kind.TABLE, spelled_loop(table), most, table.bound, cycle, len(rounds.breaks))
+                yield Break(
+                    Kind.TABLE, spelled_loop(table), most, table.bound, cycle, len(rounds.breaks)
+                )
 
     @property
     def doubts(self) -> list[Doubt]:
@@ -135,7 +139,9 @@ class Observation:
     def _broken_claims(self) -> Iterator[Break]:
         for it in self.claims:
             if it.broken_at is not None:
-                yield Break(Kind.CLAIM, str(it.claim), it.most, it.claim.most, it.broken_at, it.times)
+                yield Break(
+                    Kind.CLAIM, str(it.claim), it.most, it.claim.most, it.broken_at, it.times
+                )
 
     def _broken_budgets(self) -> Iterator[Break]:
         for seen in self.executions:
@@ -157,7 +163,9 @@ class Observation:
             kept = [it for it in seen.over if not _has_break(starts, *it)]
             if kept and seen.watched.bound is not None:
                 cycle, cycles = max(kept, key=lambda it: (it[1], -it[0]))
-                yield Break(Kind.BOUND, seen.watched.name, cycles, seen.watched.bound, cycle, len(kept))
+                yield Break(
+                    Kind.BOUND, seen.watched.name, cycles, seen.watched.bound, cycle, len(kept)
+                )
 
 
 def _is_over(seen: Executions) -> bool:
@@ -210,7 +218,9 @@ def loops_without_table(
     watched: Collection[Watched], code: Mapping[int, int], stated: Collection[LoopTable]
 ) -> list[LoopTable]:
     """The loops in the code of sections that no table states, by their heads."""
-    parts = {part for it in watched if not it.is_function for part in ((it.start, it.end), *it.routines)}
+    parts = {
+        part for it in watched if not it.is_function for part in ((it.start, it.end), *it.routines)
+    }
     heads = {head for it in watched for head, _ in it.routines}
     found = chain.from_iterable(walk(code, start, end, heads).loops for start, end in sorted(parts))
     known = {it.head for it in stated}
@@ -232,7 +242,9 @@ def question_of(
     claims of loop marks."""
     loops = [*setup.loops, *loops_without_table(watched, code, setup.loops)]
     is_quiet = not setup.has_permits
-    return Question(thread, watched, loops, turns_of(setup, thread), setup.period, code, is_quiet, marks=marks)
+    return Question(
+        thread, watched, loops, turns_of(setup, thread), setup.period, code, is_quiet, marks=marks
+    )
 
 
 class TurnMeter:
@@ -253,7 +265,9 @@ class TurnMeter:
             earliest = earliest_issue(block, index)
             is_spinning = is_delay(self._code.get(address(block.events[index]) or 0, 0))
             if earliest is not None and not is_spinning and cycle != self._turns.next(earliest):
-                self.stranger = f"the event of cycle {cycle} would be in cycle {self._turns.next(earliest)}"
+                self.stranger = (
+                    f"the event of cycle {cycle} would be in cycle {self._turns.next(earliest)}"
+                )
                 return
 
     def end(self, cycle: int) -> None:
@@ -262,7 +276,9 @@ class TurnMeter:
 
 def observe(reader: TraceReader, question: Question) -> Observation:
     """Looks at a trace. Where a line is broken, at all before it."""
-    code: Mapping[int, int] = ChainMap(dict(question.code), reader.words) if question.code else reader.words
+    code: Mapping[int, int] = (
+        ChainMap(dict(question.code), reader.words) if question.code else reader.words
+    )
     sections = [
         SectionMeter(it, question.turns, code, question.shown_to)
         for it in question.watched
@@ -283,7 +299,11 @@ def observe(reader: TraceReader, question: Question) -> Observation:
         seen.broken = str(fault)
     except KeyboardInterrupt:
         seen.broken = f"{reader.name}: stopped behind cycle {reader.last_cycle}"
-    seen.events, seen.first_cycle, seen.last_cycle = reader.events, reader.first_cycle, reader.last_cycle
+    seen.events, seen.first_cycle, seen.last_cycle = (
+        reader.events,
+        reader.first_cycle,
+        reader.last_cycle,
+    )
     seen.executions = [*(it.seen for it in sections), *calls.seen.values()]
     for executions in seen.executions:
         look_at_open_trap(executions, open_trap, reader.last_cycle or 0)
@@ -299,7 +319,12 @@ def look_at_open_trap(seen: Executions, open_trap: OpenTrapMeter, last_cycle: in
     """Whether a thread that is in a trap handler at the end of a run comes back no more. It does where an
     execution with a trap ended before and took as long, or executions began as far apart."""
     trap, last_begin = open_trap.trap, seen.last_begin
-    if seen.watched.is_function and trap is not None and last_begin is not None and last_begin < trap.cycle:
+    if (
+        seen.watched.is_function
+        and trap is not None
+        and last_begin is not None
+        and last_begin < trap.cycle
+    ):
         seen.open_trap = trap
     if seen.unfinished is not None:
         comes_back = seen.interrupted.most >= seen.unfinished[1] and not open_trap.stands_still
@@ -315,7 +340,9 @@ def _foreign(reader: TraceReader, question: Question, turns: TurnMeter) -> str |
     if question.code:
         for pc, bits in sorted(reader.words.items()):
             if bits and bits != question.code.get(pc, 0):
-                text = f"the trace has the word {bits:08x}, the image {question.code.get(pc, 0):08x}"
+                text = (
+                    f"the trace has the word {bits:08x}, the image {question.code.get(pc, 0):08x}"
+                )
                 return f"{pc:#x}: {text}: the trace is of another program"
     if turns.stranger is not None:
         return f"{turns.stranger}, by the setup's slots: the trace is of another thread or setup"
@@ -356,7 +383,9 @@ def opened_run(flexpret: Flexpret, setup: Path, thread: int, cycles: int) -> Ite
         if ran.returncode > 0 and (source.is_at_end or ran.returncode != Status.WRITE):
             errors.seek(0)
             text = source.tail if source.tail.startswith(b"refused") else errors.read()
-            reason = "; ".join(line for line in text.decode("utf-8", "replace").splitlines() if line)
+            reason = "; ".join(
+                line for line in text.decode("utf-8", "replace").splitlines() if line
+            )
             raise RunFailed(f"run {setup} --thread {thread}: status {ran.returncode}: {reason}")
 
 

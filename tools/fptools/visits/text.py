@@ -12,7 +12,11 @@ from fptools.files.trace import CAUSES
 from fptools.visits.visits import Executions, Rounds, Spread, TrapAt, Wait
 
 NO_NUMBER = "-"
-NAME_WIDTH, EXECUTION_WIDTHS, WAIT_WIDTHS = 32, (9, 10, 11, 10, 12, 10, 7, 10), (9, 10, 11, 12, 12, 17)
+NAME_WIDTH, EXECUTION_WIDTHS, WAIT_WIDTHS = (
+    32,
+    (9, 10, 11, 10, 12, 10, 7, 10),
+    (9, 10, 11, 12, 12, 17),
+)
 COLUMNS = (
     "thread name from to kind executions shortest mean longest longest_at bound ratio budget "
     "interrupted interrupted_longest "
@@ -33,14 +37,22 @@ def _number(value: int | None) -> str:
 
 def _cells(name: str, widths: Sequence[int], texts: Sequence[str]) -> str:
     """A line of a table: a name, and texts that are right-aligned."""
-    return f"{name:<{NAME_WIDTH}}" + "".join(f"{text:>{width}}" for text, width in zip(texts, widths))
+    return f"{name:<{NAME_WIDTH}}" + "".join(
+        f"{text:>{width}}" for text, width in zip(texts, widths)
+    )
 
 
 def _spread_cells(spread: Spread) -> tuple[str, ...]:
     """Number, least, mean, most and its cycle."""
     if not spread.count:
         return "0", *[NO_NUMBER] * 4
-    return str(spread.count), str(spread.least), f"{spread.mean:.1f}", str(spread.most), str(spread.at)
+    return (
+        str(spread.count),
+        str(spread.least),
+        f"{spread.mean:.1f}",
+        str(spread.most),
+        str(spread.at),
+    )
 
 
 def silence_text(cycles: int) -> str:
@@ -107,7 +119,9 @@ class Text:
                 most = f"{spread.least} to {spread.most} cycles, the longest at cycle {spread.at}"
                 yield f"{spread.count} more {what}: {most}; the bound ends {ends}"
         if it.left:
-            where = ", ".join(f"to {self.at(pc)} {times} times" for pc, times in it.left.most_common(3))
+            where = ", ".join(
+                f"to {self.at(pc)} {times} times" for pc, times in it.left.most_common(3)
+            )
             yield f"left other than by its end: {where}"
         if it.given_up:
             yield f"{it.given_up} began again before they ended"
@@ -186,19 +200,23 @@ class Text:
             return f"TABLE   {thread}loop {name}: {text}"
         if it.kind is Kind.CLAIM:
             text = f"claimed {it.most}, seen {it.seen}: it was broken in cycle {it.cycle}"
-            return f"CLAIM   {thread}{it.what}: {text}" + (f", and {it.times} times in all" if it.times > 1 else "")
+            return f"CLAIM   {thread}{it.what}: {text}" + (
+                f", and {it.times} times in all" if it.times > 1 else ""
+            )
         if it.kind is Kind.BUDGET:
             text = f"{it.seen} of {it.most} cycles, from cycle {it.cycle}"
             text += f"; {self.doubt(seen, it.doubt)}" if it.doubt else ""
             return f"OVER    {thread}{it.what}: {text}"
-        text = f"{it.seen} cycles from cycle {it.cycle}, {it.times} times above its bound of {it.most}"
+        text = (
+            f"{it.seen} cycles from cycle {it.cycle}, {it.times} times above its bound of {it.most}"
+        )
         return f"FAULT   {thread}{it.what}: {text}{REPORT if seen.question.is_quiet else NOT_QUIET}"
 
 
-NOT_QUIET = ": a thread has a permit, and a bound holds only while no slots, modes or regions are written"
-REPORT = (
-    ", though each loop kept its table: a fault of the analyser; please report it with setup, image and trace"
+NOT_QUIET = (
+    ": a thread has a permit, and a bound holds only while no slots, modes or regions are written"
 )
+REPORT = ", though each loop kept its table: a fault of the analyser; please report it with setup, image and trace"
 
 
 def _period(spread: Spread, period: int) -> str:
@@ -233,7 +251,8 @@ def as_data(seen: Observation, text: Text) -> dict[str, Any]:
         "claims": [_claim(it) for it in seen.claims],
         "waits": [_wait(it) for it in seen.waits],
         "traps": [
-            {"pc": it.pc, "cause": it.cause, "number": it.count, "first_at": it.first} for it in seen.traps
+            {"pc": it.pc, "cause": it.cause, "number": it.count, "first_at": it.first}
+            for it in seen.traps
         ],
         "breaks": [
             {
@@ -248,7 +267,8 @@ def as_data(seen: Observation, text: Text) -> dict[str, Any]:
             for it in seen.breaks
         ],
         "unknown": [
-            {"name": it.what, "why": it.why.value, "text": text.unknown(seen, it)} for it in seen.doubts
+            {"name": it.what, "why": it.why.value, "text": text.unknown(seen, it)}
+            for it in seen.doubts
         ],
         "broken_trace": seen.broken,
         "foreign_trace": seen.foreign,

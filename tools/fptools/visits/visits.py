@@ -14,6 +14,7 @@ from functools import lru_cache
 from typing import Callable, Collection, Iterable, Iterator, Mapping, Protocol
 
 from fptools.files.setup import LoopTable
+
 from fptools.files.trace_blocks import (
     BITS, CYCLE, EFFECT, PC, PLACE, Block, TraceReader, address, character, class_of, span, trap_character,
 )  # fmt: skip
@@ -22,7 +23,10 @@ from fptools.isa.words import MRET, OPCODE_JAL, OPCODE_JALR, Flow, Word
 
 MOST_KEPT = 10_000  # places of breaks that are kept
 MOST_OPEN_CALLS = 10_000
-TAKES_TURN = (1, 24)  # the causes of a refused fetch and an expiry: the word at the pc doesn't issue
+TAKES_TURN = (
+    1,
+    24,
+)  # the causes of a refused fetch and an expiry: the word at the pc doesn't issue
 RETURN_REGISTER = 1
 FUNCT3_DU = 2
 JUMP_TO_ITSELF = 0x0000006F  # `j .`
@@ -121,12 +125,18 @@ class Executions:
     traps: int = 0
     left: Counter[int] = field(default_factory=Counter)  # to which addresses other than its ends
     given_up: int = 0  # executions that began again before they ended
-    unfinished: tuple[int, int] | None = None  # the cycle in which the last one began, and its cycles so far
+    unfinished: tuple[
+        int, int
+    ] | None = None  # the cycle in which the last one began, and its cycles so far
     open_trap: TrapAt | None = None  # that came in that one, which hasn't gone on since
     last_begin: int | None = None  # the cycle in which the newest one began
     lost: Lost | None = None  # one that didn't end, of several the one that says most
-    gone: TrapAt | None = None  # a trap since the last execution, from which the thread didn't come back
-    over: list[tuple[int, int]] = field(default_factory=list)  # visits above the bound: cycle and cycles
+    gone: TrapAt | None = (
+        None  # a trap since the last execution, from which the thread didn't come back
+    )
+    over: list[tuple[int, int]] = field(
+        default_factory=list
+    )  # visits above the bound: cycle and cycles
 
     @property
     def count(self) -> int:
@@ -186,7 +196,9 @@ class Wait:
         default_factory=Spread
     )  # nanoseconds since the moment, of the overruns with a known moment
     slack: Spread = field(default_factory=Spread)  # nanoseconds to the moment, of the others
-    periods: Spread = field(default_factory=Spread)  # from one issue behind it to the next, in cycles
+    periods: Spread = field(
+        default_factory=Spread
+    )  # from one issue behind it to the next, in cycles
     first_overrun: int | None = None  # its cycle
     is_carry: bool = False  # the moment's high word lags: a carry is missing
 
@@ -250,11 +262,17 @@ class SectionMeter:
     """Measures a section."""
 
     def __init__(
-        self, watched: Watched, turns: Turns | None, code: Mapping[int, int], shown_to: int | None = None
+        self,
+        watched: Watched,
+        turns: Turns | None,
+        code: Mapping[int, int],
+        shown_to: int | None = None,
     ) -> None:
         self.seen = Executions(watched)
         self._turns, self._code = turns, code
-        self._shown_to = shown_to  # the last cycle of which the trace shows whether the thread issued
+        self._shown_to = (
+            shown_to  # the last cycle of which the trace shows whether the thread issued
+        )
         self._delays: dict[str, bool] = {}  # whether the word at an event's address is a DU
         self._ends = frozenset({watched.end, *watched.exits})
         own = span(watched.start, watched.end)
@@ -274,7 +292,11 @@ class SectionMeter:
 
     def take(self, block: Block) -> None:
         position = 0
-        step = {_Where.OUTSIDE: self._seek, _Where.INSIDE: self._go_on, _Where.AWAY: self._come_back}
+        step = {
+            _Where.OUTSIDE: self._seek,
+            _Where.INSIDE: self._go_on,
+            _Where.AWAY: self._come_back,
+        }
         while position < len(block.events):
             position = step[self._where](block, position)
 
@@ -391,7 +413,8 @@ class SectionMeter:
 
 class LoopMeter:
     """Counts how often a loop goes back to its head, each time that it is entered: its counter as bounds
-    define it. Calls and traps between don't end an entry where the thread comes back into the loop."""
+    define it. Calls and traps between don't end an entry where the thread comes back into the loop.
+    """
 
     def __init__(self, table: LoopTable) -> None:
         self.seen = Rounds(table)
@@ -426,7 +449,11 @@ class LoopMeter:
         middle = Counter(runs[first:-1])
         spread, table = self.seen.backs, self.seen.table
         most = spread.most if table.bound is None else min(spread.most, table.bound)
-        kinds = [(run.count(self._head) - 1, times) for run, times in middle.items() if run[0] == self._head]
+        kinds = [
+            (run.count(self._head) - 1, times)
+            for run, times in middle.items()
+            if run[0] == self._head
+        ]
         is_plain = len(runs) > first + 1 and len(kinds) == len(middle) and runs[-1][0] == self._head
         if not is_plain or not spread.count or any(backs > most for backs, _ in kinds):
             return False
@@ -458,7 +485,12 @@ class LoopMeter:
         return "".join(events)
 
     def _take_run(self, block: Block, index: int, heads: int, begins: bool) -> None:
-        goes_on = index == 0 and self._touches or self._is_taken and _is_return_of_trap(block.line(index - 1))
+        goes_on = (
+            index == 0
+            and self._touches
+            or self._is_taken
+            and _is_return_of_trap(block.line(index - 1))
+        )
         if begins and not goes_on:
             self._close()
             self._open(block.cycle(index), heads - 1)
@@ -532,7 +564,9 @@ class CallMeter:
     """Measures functions: from the issue of a call to the first issue after its return, with all that
     the function calls."""
 
-    def __init__(self, watched: Iterable[Watched], turns: Turns | None, reader: TraceReader) -> None:
+    def __init__(
+        self, watched: Iterable[Watched], turns: Turns | None, reader: TraceReader
+    ) -> None:
         self.seen = {it.start: Executions(it) for it in watched}
         self._turns, self._reader = turns, reader
         self._known = Known(reader, lambda word: _is_call(word) or _is_jump_by_register(word))
@@ -594,7 +628,9 @@ class CallMeter:
             return
         seen = self.seen[call.callee]
         is_du = is_delay(self._reader.words.get(to, 0))
-        cycles = (first_try(block, index, self._turns) if is_du else block.cycle(index)) - call.cycle
+        cycles = (
+            first_try(block, index, self._turns) if is_du else block.cycle(index)
+        ) - call.cycle
         if traps > call.traps:
             seen.interrupted.add(cycles, call.cycle)
             seen.traps += traps - call.traps
@@ -692,7 +728,9 @@ class WaitMeter:
     def __init__(self, judge: WaitJudge) -> None:
         self.seen: dict[int, Wait] = {}
         self._judge = judge
-        self._went_on: dict[int, int] = {}  # the newest cycle in which a thread went on behind each wait
+        self._went_on: dict[
+            int, int
+        ] = {}  # the newest cycle in which a thread went on behind each wait
         self._last: int | None = None  # the wait that is the last event so far
 
     def take(self, block: Block) -> None:
@@ -779,7 +817,9 @@ class OpenTrapMeter:
         elif returned >= 0:
             self.trap = None
         self._last = block.lines[-1]
-        self.stands_still = int(self._last[BITS], 16) == JUMP_TO_ITSELF or trapped == len(block.lines) - 1
+        self.stands_still = (
+            int(self._last[BITS], 16) == JUMP_TO_ITSELF or trapped == len(block.lines) - 1
+        )
 
     def end(self, cycle: int) -> None:
         """Nothing is open at the end."""

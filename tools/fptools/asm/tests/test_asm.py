@@ -74,7 +74,10 @@ def test_a_map_gives_labels_and_lines(tool: Tool, tmp_path: Path) -> None:
         ["0x00000004", "0x20000010", "0x00000010", "0x0000000c"],
     )
     ran = tool("fp_addresses", "--map", names, "nowhere")
-    assert (ran.returncode, ran.stderr) == (2, f"fp_addresses: nowhere is no symbol of code in {names}\n")
+    assert (ran.returncode, ran.stderr) == (
+        2,
+        f"fp_addresses: nowhere is no symbol of code in {names}\n",
+    )
 
 
 def test_files_are_left_where_the_source_changed(tool: Tool, tmp_path: Path) -> None:
@@ -109,7 +112,10 @@ def test_what_no_map_and_no_image_is(tool: Tool, tmp_path: Path) -> None:
     ran = tool("fp_disasm", "none.fpx")
     assert ran.returncode == 2 and "No such file" in ran.stderr
     ran = tool("fp_addresses", "--map", "x", "--elf", "y", "z")
-    assert (ran.returncode, ran.stderr) == (2, "fp_addresses: --elf and --map: names are of one of them\n")
+    assert (ran.returncode, ran.stderr) == (
+        2,
+        "fp_addresses: --elf and --map: names are of one of them\n",
+    )
 
 
 @pytest.mark.parametrize("path", SOURCES, ids=lambda path: str(path.name))
@@ -152,7 +158,9 @@ def drawn(seed: int) -> dict[int, int]:
         if draws.random() < 0.1:
             continue
         bits = draws.randrange(1 << 32)
-        opcode = draws.choice((0x37, 0x17, 0x6F, 0x67, 0x63, 0x03, 0x23, 0x13, 0x33, 0x0F, 0x73, 0x0B))
+        opcode = draws.choice(
+            (0x37, 0x17, 0x6F, 0x67, 0x63, 0x03, 0x23, 0x13, 0x33, 0x0F, 0x73, 0x0B)
+        )
         words[at] = draws.choice(
             (bits, bits & ~0x7F | opcode, bits & 0x01FFFF80 | opcode, 0, 0x0FF0000F, 0x0000100F)
         )
@@ -162,9 +170,15 @@ def drawn(seed: int) -> dict[int, int]:
 @pytest.mark.parametrize("seed", range(12))
 def test_drawn_words_come_back(seed: int) -> None:
     words = drawn(seed)
-    names = {at: f"name.{at}" for at in words if at % 12 == 0} | {4: "$odd", 8: "twice", 16: "twice"}
+    names = {at: f"name.{at}" for at in words if at % 12 == 0} | {
+        4: "$odd",
+        8: "twice",
+        16: "twice",
+    }
     starts = [at for at in sorted(words) if at - 4 not in words]
-    words = {at: bits for at, bits in words.items() if at < (starts[16] if len(starts) > 16 else 1 << 32)}
+    words = {
+        at: bits for at, bits in words.items() if at < (starts[16] if len(starts) > 16 else 1 << 32)
+    }
     assert words_of(assembled("\n".join(disassembled(words, names)))) == words
 
 
@@ -223,9 +237,16 @@ def test_names_of_another_executable(tool: Tool, tmp_path: Path) -> None:
     ran = tool("fp_addresses", "--elf", elf, *setup, "step_begin", "step_end")
     assert (ran.returncode, ran.stdout) == (0, "0x000000b4\n0x000001a4\n")
     ran = tool("fp_addresses", "--elf", other, *setup, "work_begin")
-    text = f"fp_addresses: the setup's image isn't made of {other}: other words at 0x14 start0+0x14\n"
+    text = (
+        f"fp_addresses: the setup's image isn't made of {other}: other words at 0x14 start0+0x14\n"
+    )
     assert (ran.returncode, ran.stdout, ran.stderr) == (2, "", text)
-    assert tool("fp_addresses", "--elf", other, "--setup", tmp_path / "none.toml", "work_begin").returncode == 0
+    assert (
+        tool(
+            "fp_addresses", "--elf", other, "--setup", tmp_path / "none.toml", "work_begin"
+        ).returncode
+        == 0
+    )
 
 
 def test_a_source_that_is_newer_than_its_map(tool: Tool, tmp_path: Path) -> None:
@@ -233,7 +254,10 @@ def test_a_source_that_is_newer_than_its_map(tool: Tool, tmp_path: Path) -> None
     source.write_bytes((TOP / "examples/sum.s").read_bytes())
     assert tool("fp_asm", source, "examples/sum.fpx", "--map", names).returncode == 0
     made = names.stat().st_mtime_ns
-    for later, said in ((0, ""), (1, "fp_addresses: sum.s is newer than sum.map: its labels may be elsewhere\n")):
+    for later, said in (
+        (0, ""),
+        (1, "fp_addresses: sum.s is newer than sum.map: its labels may be elsewhere\n"),
+    ):
         os.utime(source, ns=(made + later, made + later))
         ran = tool("fp_addresses", "--map", names, "loop")
         assert (ran.returncode, ran.stdout, ran.stderr) == (0, "0x00000010\n", said)

@@ -52,7 +52,9 @@ def test_sources_have_the_words_and_faults_of_the_model(texts: list[str]) -> Non
     data = "\n".join(texts).encode()
     found: tuple[int, str] | dict[int, int]
     try:
-        found = {at + 4 * k: word for _, at, words in Placed(data).words for k, word in enumerate(words)}
+        found = {
+            at + 4 * k: word for _, at, words in Placed(data).words for k, word in enumerate(words)
+        }
     except SourceFault as fault:
         found = fault.line, fault.code.name
     assert found == wanted(data)

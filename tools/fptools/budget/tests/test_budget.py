@@ -20,14 +20,18 @@ NO_LINES = (
     "assumes moved work: nothing tells whether work was moved out of the section: "
     "the code has no line tables: compile with -g"
 )
-STEP_NOTE = f"fp_budget: T0 step: assumes no traps: it is of executions without a trap ({COMES_BACK})"
+STEP_NOTE = (
+    f"fp_budget: T0 step: assumes no traps: it is of executions without a trap ({COMES_BACK})"
+)
 PLAIN_STEP = 'name = "step"\nthread = 0\nfrom = "step_begin"\nto = "step_end"\n'
 STEP = f'{PLAIN_STEP}assume = ["no traps", "moved work"]\n'
 CALLS = "calls = true goes through functions that are called by x1"
 ELSEWHERE = "lay the code out by fp_layout, or name the address in `exits` if it may end there"
 
 
-def judged(asking: Tool, folder: Path, words: tuple[str, ...], *tables: str) -> tuple[int, list[str]]:
+def judged(
+    asking: Tool, folder: Path, words: tuple[str, ...], *tables: str
+) -> tuple[int, list[str]]:
     """The status and the lines for budgets of these tables, without those that the script warns by."""
     budgets = folder / "budgets.toml"
     budgets.write_text("".join(f"[[budget]]\n{table}\n" for table in tables))
@@ -56,8 +60,18 @@ def test_a_budget_that_holds_and_one_that_is_over(asking: Tool, tmp_path: Path) 
 @pytest.mark.parametrize(
     ("setup", "start", "end", "why"),
     [
-        ("stack", "0x10", "0x14", f"0x10 to 0x100: a call leaves the section: a bound ends here; {CALLS}"),
-        ("nest", "0x10", "0x18", f"0x14 to 0xc: leaves for another address: a bound ends here; {ELSEWHERE}"),
+        (
+            "stack",
+            "0x10",
+            "0x14",
+            f"0x10 to 0x100: a call leaves the section: a bound ends here; {CALLS}",
+        ),
+        (
+            "nest",
+            "0x10",
+            "0x18",
+            f"0x14 to 0xc: leaves for another address: a bound ends here; {ELSEWHERE}",
+        ),
         (
             "nest",
             "0x24",
@@ -66,18 +80,30 @@ def test_a_budget_that_holds_and_one_that_is_over(asking: Tool, tmp_path: Path) 
         ),
         ("nest", "0x40", "0x50", "0x40: no code is here: a bound ends here; is the address right?"),
         ("traps", "0x14", "0x18", "0x14: traps: a bound ends here"),
-        ("traps", "0x1c", "0x20", "0x1c: no code is here: a bound ends here; is the address right?"),
+        (
+            "traps",
+            "0x1c",
+            "0x20",
+            "0x1c: no code is here: a bound ends here; is the address right?",
+        ),
         (
             "traps",
             "0x100",
             "0x130",
             f"status 6: refused bound 2 IndirectJump 00000124: {HELP['IndirectJump']}",
         ),
-        ("drive", "0x10", "0x38", f"status 6: refused bound 3 TimedWait 00000034: {HELP['TimedWait']}"),
+        (
+            "drive",
+            "0x10",
+            "0x38",
+            f"status 6: refused bound 3 TimedWait 00000034: {HELP['TimedWait']}",
+        ),
         ("drive", "0x40", "0x20", "status 3: refused section 3 Order"),
     ],
 )
-def test_what_is_unknown(asking: Tool, tmp_path: Path, setup: str, start: str, end: str, why: str) -> None:
+def test_what_is_unknown(
+    asking: Tool, tmp_path: Path, setup: str, start: str, end: str, why: str
+) -> None:
     status, lines = judged(asking, tmp_path, (f"examples/{setup}.toml",), section(start, end))
     assert (status, lines) == (2, [f"UNKNOWN  T0 it: {why}"])
 
@@ -95,7 +121,10 @@ def test_a_bound_of_0_is_unknown(asking: Tool, tmp_path: Path) -> None:
 def test_a_jump_elsewhere_is_unknown_unless_it_is_meant(asking: Tool, tmp_path: Path) -> None:
     words = ("examples/traps.toml",)
     way = f"0x10c to 0x124: leaves for another address: a bound ends here; {ELSEWHERE}"
-    assert judged(asking, tmp_path, words, section("0x108", "0x110")) == (2, [f"UNKNOWN  T0 it: {way}"])
+    assert judged(asking, tmp_path, words, section("0x108", "0x110")) == (
+        2,
+        [f"UNKNOWN  T0 it: {way}"],
+    )
     meant = "cycles = 1000\nexits = [0x124]"
     assert judged(asking, tmp_path, words, section("0x108", "0x110", meant))[0] == 0
 
@@ -114,7 +143,9 @@ def calling(flexpret: str, tmp_path: Path) -> tuple[str, ...]:
     """The words for a setup of calls.elf, in which T0 has all turns."""
     elf = TOP / "tools/fptools/testing/calls.elf"
     image, setup = tmp_path / "calls.fpx", tmp_path / "calls.toml"
-    image.write_bytes(subprocess.run([flexpret, "elf", elf], capture_output=True, check=True).stdout)
+    image.write_bytes(
+        subprocess.run([flexpret, "elf", elf], capture_output=True, check=True).stdout
+    )
     setup.write_text(setup_text(image))
     return str(setup), "--elf", str(elf)
 
@@ -134,7 +165,9 @@ def test_calls_of_functions(asking: Tool, tmp_path: Path, calling: tuple[str, ..
     )
 
 
-def test_a_called_function_that_traps(asking: Tool, tmp_path: Path, calling: tuple[str, ...]) -> None:
+def test_a_called_function_that_traps(
+    asking: Tool, tmp_path: Path, calling: tuple[str, ...]
+) -> None:
     table = section('"back"', '"again"', "cycles = 1000\ncalls = true")
     assert judged(asking, tmp_path, calling, table) == (
         2,
@@ -146,7 +179,9 @@ def setup_of(folder: Path, words: list[int], loops: str = "") -> Path:
     """A setup over these words from address 0 on."""
     code = b"".join(it.to_bytes(4, "little") for it in words)
     image, setup = folder / "own.fpx", folder / "own.toml"
-    image.write_bytes(b"FPX1" + b"".join(it.to_bytes(4, "little") for it in (1, 0, len(code))) + code)
+    image.write_bytes(
+        b"FPX1" + b"".join(it.to_bytes(4, "little") for it in (1, 0, len(code))) + code
+    )
     setup.write_text(setup_text(image) + loops)
     return setup
 
@@ -154,7 +189,9 @@ def setup_of(folder: Path, words: list[int], loops: str = "") -> Path:
 NOP, RETURN, HERE, CALL_FOUR_ON, CALL_BY_T0 = 0x13, 0x8067, 0x6F, 0x010000EF, 0x010002EF
 
 
-def of_functions(flexpret: str, folder: Path, words: list[int], loops: str = "") -> tuple[Verdict, str]:
+def of_functions(
+    flexpret: str, folder: Path, words: list[int], loops: str = ""
+) -> tuple[Verdict, str]:
     """What is said of the section of the first three words, where a function stands from the sixth on."""
     setup = read_setup(setup_of(folder, words, loops))
     image = read_image(setup.image)
@@ -225,12 +262,17 @@ def test_an_image_of_another_executable(asking: Tool, tmp_path: Path) -> None:
     table = 'name = "it"\nthread = 0\nfrom = "grid_begin"\nto = "grid_end"\ncycles = 1000\n'
     status, lines = judged(asking, tmp_path, words, table)
     assert status == 2
-    assert lines[0].endswith("the image isn't made of tools/fptools/testing/loops.elf: make it again by `elf`")
+    assert lines[0].endswith(
+        "the image isn't made of tools/fptools/testing/loops.elf: make it again by `elf`"
+    )
 
 
 def test_a_name_that_is_no_symbol(asking: Tool, tmp_path: Path) -> None:
     status, lines = judged(asking, tmp_path, PID, section('"step"', '"step_end"'))
-    assert (status, lines) == (2, ["UNKNOWN  T0 it: step is no symbol of code in examples/c/pid.elf"])
+    assert (status, lines) == (
+        2,
+        ["UNKNOWN  T0 it: step is no symbol of code in examples/c/pid.elf"],
+    )
 
 
 def test_a_name_without_an_executable(asking: Tool, tmp_path: Path) -> None:
@@ -278,7 +320,14 @@ def test_a_name_that_standard_output_cannot_take(asking: Tool, tmp_path: Path) -
 
 def test_the_junit_file(asking: Tool, tmp_path: Path) -> None:
     words = (*PID, "--junit", str(tmp_path / "budgets.xml"))
-    judged(asking, tmp_path, words, f"{STEP}cycles = 352", f"{STEP}cycles = 1", section("0x700", "0x704"))
+    judged(
+        asking,
+        tmp_path,
+        words,
+        f"{STEP}cycles = 352",
+        f"{STEP}cycles = 1",
+        section("0x700", "0x704"),
+    )
     suite = ElementTree.parse(tmp_path / "budgets.xml").getroot()
     assert {name: suite.get(name) for name in ("tests", "failures", "errors")} == {
         "tests": "3",
@@ -299,7 +348,9 @@ def test_the_junit_file(asking: Tool, tmp_path: Path) -> None:
 
 
 @pytest.mark.parametrize("faulty", ["setup", "budgets", "schema", "refused"])
-def test_the_junit_file_where_nothing_can_be_said(asking: Tool, tmp_path: Path, faulty: str) -> None:
+def test_the_junit_file_where_nothing_can_be_said(
+    asking: Tool, tmp_path: Path, faulty: str
+) -> None:
     setup, budgets, junit = TOP / PID[0], tmp_path / "budgets.toml", tmp_path / "budgets.xml"
     budgets.write_text(f"[[budget]]\n{STEP}cycles = {0 if faulty == 'schema' else 352}\n")
     junit.write_text("of an earlier call")
@@ -349,7 +400,9 @@ def test_a_file_that_is_no_toml_is_named(asking: Tool, tmp_path: Path) -> None:
 
 
 def test_the_examples_of_budgets_are_read(asking: Tool) -> None:
-    ran = asking("fp_budget", "examples/c/pid.toml", "examples/c/budgets.toml", "--elf", "examples/c/pid.elf")
+    ran = asking(
+        "fp_budget", "examples/c/pid.toml", "examples/c/budgets.toml", "--elf", "examples/c/pid.elf"
+    )
     assert (ran.returncode, ran.stdout) == (
         0,
         "holds    T0 a step of the controller: 352 of 400 cycles (3520 ns)\n",
@@ -366,7 +419,8 @@ def test_a_permit_is_told_beside_the_results(asking: Tool, tmp_path: Path) -> No
     status, lines = judged(asking, tmp_path, ("examples/slots.toml",), table)
     assert status == 0
     assert (
-        lines[1] == "fp_budget: T0: a permit; bounds hold while no instruction writes slots, modes or regions"
+        lines[1]
+        == "fp_budget: T0: a permit; bounds hold while no instruction writes slots, modes or regions"
     )
     assert lines[2].startswith("fp_budget: T0 it: assumes no configuration writes: ")
 
@@ -375,4 +429,7 @@ def test_a_refused_setup(asking: Tool, tmp_path: Path) -> None:
     setup = tmp_path / "setup.toml"
     setup.write_text((TOP / "examples/nest.toml").read_text().replace("period = 10", "period = 0"))
     status, lines = judged(asking, tmp_path, (str(setup),), section("0x8", "0x20"))
-    assert (status, lines) == (2, [f"fp_budget: {setup}:10: period: 0 is less than the minimum of 1"])
+    assert (status, lines) == (
+        2,
+        [f"fp_budget: {setup}:10: period: 0 is less than the minimum of 1"],
+    )

@@ -35,7 +35,9 @@ class Case:
             f"[[thread]]\nid = 0\nmode = 'hard'\nentry = 0\nconfined = true\ninputs = {inputs}\n{loops}"
         )
 
-    def judged(self, most: int, cycles: int, more: str = "", start: str = "work_begin") -> tuple[int, str]:
+    def judged(
+        self, most: int, cycles: int, more: str = "", start: str = "work_begin"
+    ) -> tuple[int, str]:
         budgets = self.folder / "budgets.toml"
         budgets.write_text(
             f'[[budget]]\nname = "it"\nthread = 0\nfrom = "{start}"\nto = "work_end"\ncycles = {most}\ncalls = true\n{more}'
@@ -74,7 +76,9 @@ def test_a_run_above_a_bound_without_a_budget(tool: Tool, folder: Path) -> None:
     section = ("--thread", 0, "--from-label", "work_begin", "--to-label", "work_end")
     ran = tool("fp_budget", case.elf, "--setup", case.setup, *section, *words)
     assert ran.returncode == 2
-    assert ran.stdout.startswith("UNKNOWN  T0 work_begin to work_end: an execution with a trap takes ")
+    assert ran.stdout.startswith(
+        "UNKNOWN  T0 work_begin to work_end: an execution with a trap takes "
+    )
 
 
 JUMPS = """
@@ -136,7 +140,10 @@ def test_an_execution_that_does_not_end(tool: Tool, folder: Path) -> None:
 
 def test_a_section_that_never_runs(tool: Tool, folder: Path) -> None:
     status, text = Case(tool, folder, "kept").judged(1000, 4)
-    assert (status, text) == (2, "UNKNOWN  T0 it: no execution in 4 cycles; 48 of 1000 cycles (480 ns)\n")
+    assert (status, text) == (
+        2,
+        "UNKNOWN  T0 it: no execution in 4 cycles; 48 of 1000 cycles (480 ns)\n",
+    )
 
 
 def test_what_is_unknown_stays_so_in_a_run(tool: Tool, folder: Path) -> None:
@@ -150,7 +157,9 @@ def test_what_is_unknown_stays_so_in_a_run(tool: Tool, folder: Path) -> None:
 def test_a_run_that_breaks_a_bound(tool: Tool, folder: Path) -> None:
     case = Case(tool, folder, "kept")
     low = folder / "low"
-    low.write_text(f'#!/bin/sh\ncase $1 in calls) echo bound 40 ;; *) exec {case.flexpret} "$@" ;; esac\n')
+    low.write_text(
+        f'#!/bin/sh\ncase $1 in calls) echo bound 40 ;; *) exec {case.flexpret} "$@" ;; esac\n'
+    )
     low.chmod(0o755)
     case.flexpret = low
     status, text = case.judged(1000, 2000)
@@ -187,7 +196,9 @@ def test_a_function_and_a_section_from_names(tool: Tool, folder: Path) -> None:
         status,
         text.startswith("OVER     T0 sum_of: an execution takes 412 of 400 cycles, from cycle "),
     ) == (1, True)
-    status, text = from_names(case, "--from-label", "work_begin", "--to-label", "work_end", "--json")
+    status, text = from_names(
+        case, "--from-label", "work_begin", "--to-label", "work_end", "--json"
+    )
     (result,) = json.loads(text)["results"]
     assert (status, result["bound"], result["longest"], result["executions"]) == (0, 416, 416, 6)
 
@@ -241,7 +252,13 @@ def test_a_run_that_fails(tool: Tool, folder: Path) -> None:
             1000,
             "TABLE",
         ),  # a loop that tests at its head, with a table one too small
-        ("one_head", ODD_THEN_EVEN, 7, 5000, "TABLE"),  # two loops with one head, and the table of one
+        (
+            "one_head",
+            ODD_THEN_EVEN,
+            7,
+            5000,
+            "TABLE",
+        ),  # two loops with one head, and the table of one
         ("taps32", "[[0, 15]]", 15, 5000, "TABLE"),  # a table that the code has outgrown
         ("emulates", "[[0, 15]]", None, 20, "OVER"),  # a trap handler that comes back
         ("expires", "[[0, 15]]", None, 500, "OVER"),  # an expiry that was armed before the section
@@ -267,5 +284,7 @@ def test_what_a_run_shows_by_itself(
     ran = tool("fp_visits", *words, "--flexpret", case.flexpret)
     assert ran.returncode == 1, ran.stderr
     assert [
-        line.split()[0] for line in ran.stdout.splitlines() if line[:5] in ("TABLE", "OVER ", "FAULT")
+        line.split()[0]
+        for line in ran.stdout.splitlines()
+        if line[:5] in ("TABLE", "OVER ", "FAULT")
     ] == [kind]

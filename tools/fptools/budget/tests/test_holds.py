@@ -116,7 +116,12 @@ def test_a_loop_that_is_left_at_the_begin_of_its_body_goes_back_n_times(case: Ca
 def test_functions_of_the_same_code_with_other_claims_stay_apart(case: Case) -> None:
     """With -fipa-icf too: their marks are other ones."""
     status, loops = case.loops("work_begin", "work_end", "--calls")
-    assert (status, loops.count("[[loop]]"), "bound = 3\n" in loops, "bound = 14\n" in loops) == (0, 2, True, True)
+    assert (status, loops.count("[[loop]]"), "bound = 3\n" in loops, "bound = 14\n" in loops) == (
+        0,
+        2,
+        True,
+        True,
+    )
     case.set_up(loops)
     longest = case.longest(2000)
     assert case.judged(longest - 1)[0] == 1
@@ -156,7 +161,10 @@ def test_a_table_that_the_code_has_outgrown(asking: Tool, flexpret: str, tmp_pat
     assert new.longest(3000) > longest
     status, text = new.judged(longest)
     assert status == 2
-    assert "the code counts 32 rounds, the marks state 16 (taps.c:10 i, 16): correct the n of FP_LOOP" in text
+    assert (
+        "the code counts 32 rounds, the marks state 16 (taps.c:10 i, 16): correct the n of FP_LOOP"
+        in text
+    )
     assert new.loops("work_begin", "work_end")[0] == 1
 
 
@@ -165,7 +173,10 @@ def test_work_that_the_compiler_moves_behind_a_mark(case: Case) -> None:
     case.set_up()
     status, text = case.judged(40)
     assert status == 0
-    assert "(moved.c:9): it comes of a line between the marks, and is done outside of the section" in text
+    assert (
+        "(moved.c:9): it comes of a line between the marks, and is done outside of the section"
+        in text
+    )
     assert "FP_KEEP" in text
     assert "outside of the section" not in case.judged(40, 'assume = ["moved work"]\n')[1]
 
@@ -174,8 +185,14 @@ def test_work_that_the_compiler_moves_behind_a_mark(case: Case) -> None:
 @pytest.mark.parametrize(
     ("mark", "says"),
     [
-        ("inlined", "(marked.c:11): it comes of a line between the marks, and is done outside of the section"),
-        ("once", "(marked.c:31): it comes of a line between the marks, and is done outside of the section"),
+        (
+            "inlined",
+            "(marked.c:11): it comes of a line between the marks, and is done outside of the section",
+        ),
+        (
+            "once",
+            "(marked.c:31): it comes of a line between the marks, and is done outside of the section",
+        ),
         ("macro", "no lines of the sources have FP_MARK(macro_begin): one alone has to"),
         ("line", "fp_budget: T0 it: nothing tells whether work was moved out of the section: "),
     ],
@@ -212,7 +229,9 @@ def test_moved_work_of_a_section_by_numbers(case: Case) -> None:
 
 
 @of("kept")
-def test_debugging_information_of_an_unknown_form(case: Case, monkeypatch: pytest.MonkeyPatch) -> None:
+def test_debugging_information_of_an_unknown_form(
+    case: Case, monkeypatch: pytest.MonkeyPatch
+) -> None:
     """What isn't known of inlined and folded functions is told, and isn't taken for none."""
 
     def broken(*_: object) -> Iterator[Inlined]:
@@ -235,7 +254,10 @@ def test_moved_work_without_line_tables(case: Case) -> None:
     case.set_up()
     status, text = case.judged(40)
     assert status == 2
-    assert "nothing tells whether work was moved out of the section: the code has no line tables" in text
+    assert (
+        "nothing tells whether work was moved out of the section: the code has no line tables"
+        in text
+    )
     status, text = case.judged(40, 'assume = ["moved work"]\n')
     assert (status, "assumes moved work: nothing tells" in text) == (0, True)
 
@@ -262,7 +284,10 @@ def test_a_source_that_is_newer_than_the_executable(case: Case) -> None:
     os.utime(source, ns=(made + 1, made + 1))
     ran = case.asking(*ask, *section)
     assert ran.returncode == 2
-    assert "head_test.c is newer than head_test.elf, so its lines may be others: build it again" in ran.stdout
+    assert (
+        "head_test.c is newer than head_test.elf, so its lines may be others: build it again"
+        in ran.stdout
+    )
     assert case.asking(*ask, *section, "--assume", "same sources").returncode == 0
     ran = case.asking("fp_loops", elf, "--from", "sum_of", "--src", case.folder)
     assert (ran.returncode, "head_test.c is newer than head_test.elf" in ran.stderr) == (1, True)
@@ -281,7 +306,10 @@ def test_a_thread_that_cannot_fetch_the_section(case: Case) -> None:
     case.set_up()
     status, text = case.judged(1000)
     assert status == 2
-    assert "work_begin (other_thread.c:7): T0 is confined and can't fetch here: the region is T1's" in text
+    assert (
+        "work_begin (other_thread.c:7): T0 is confined and can't fetch here: the region is T1's"
+        in text
+    )
 
 
 @of("other_thread")
@@ -358,7 +386,10 @@ def test_a_function_that_returns_elsewhere(case: Case) -> None:
     assert "astray+0x8 (elsewhere.s:" in text
     assert "it isn't certain that this goes back to the call: x1 and x2 change" in text
     status, text = case.judged(1000, start="other")
-    assert (status, "whether the stack fits is unknown: 0x14 astray (elsewhere.s:" in text) == (2, True)
+    assert (status, "whether the stack fits is unknown: 0x14 astray (elsewhere.s:" in text) == (
+        2,
+        True,
+    )
     assert case.judged(1000, 'assume = ["stack fits"]\n', start="other")[0] == 0
 
 
@@ -376,10 +407,16 @@ def test_a_function_that_returns_elsewhere(case: Case) -> None:
 )
 def test_marks_of_loops_of_many_shapes(tool: Tool, function: str, bound: str) -> None:
     ran = tool("fp_loops", HOLDS / "shapes.elf", "--from", function, *SRC)
-    assert next(it for it in ran.stdout.splitlines() if it.startswith("bound")).startswith(f"bound = {bound}")
+    assert next(it for it in ran.stdout.splitlines() if it.startswith("bound")).startswith(
+        f"bound = {bound}"
+    )
     assert ran.returncode == ("bound = ?" in ran.stdout)
 
 
 def test_the_mark_of_an_unrolled_loop_bounds_no_loop_around(tool: Tool) -> None:
     ran = tool("fp_loops", HOLDS / "shapes_o3.elf", "--from", "unrolled", *SRC)
-    assert (ran.returncode, ran.stdout.count("[[loop]]"), ran.stdout.count("bound = ?")) == (1, 1, 1)
+    assert (ran.returncode, ran.stdout.count("[[loop]]"), ran.stdout.count("bound = ?")) == (
+        1,
+        1,
+        1,
+    )

@@ -32,7 +32,9 @@ class Named:
 
     def __call__(self, name: str, *words: str) -> subprocess.CompletedProcess[str]:
         elf = HOLDS / f"{name}.elf"
-        return self.asking("fp_budget", elf, "--setup", self.setup, "--thread", "0", "--src", HOLDS, *words)
+        return self.asking(
+            "fp_budget", elf, "--setup", self.setup, "--thread", "0", "--src", HOLDS, *words
+        )
 
     def text(self, name: str, *words: str) -> tuple[int, str]:
         ran = self(name, *words)
@@ -79,7 +81,13 @@ def test_a_function_whose_loop_states_nothing(named: Named) -> None:
     assert status == 2
     assert "nothing bounds this loop (no FP_ROUND is in the loop in one_head.c:9 to 12" in text
     status, text = named.text(
-        "one_head", "--from-label", "work_begin", "--to-label", "work_end", "--assume", "loop tables"
+        "one_head",
+        "--from-label",
+        "work_begin",
+        "--to-label",
+        "work_end",
+        "--assume",
+        "loop tables",
     )
     assert (status, "neither marks, nor code, nor the setup bound this loop" in text) == (2, True)
 
@@ -141,7 +149,10 @@ def test_the_json_document_and_the_junit_file(named: Named) -> None:
         (("x.toml", "y.toml", "--function", "f"), "go with --setup"),
         (("x.elf", "--setup", "x.toml", "--function", "f"), "--setup needs --thread"),
         (("x.elf", "--setup", "x.toml", "--thread", "8", "--function", "f"), "invalid choice: 8"),
-        (("x.elf", "--setup", "x.toml", "--thread", "0"), "--setup needs --period, --function, or --from-label"),
+        (
+            ("x.elf", "--setup", "x.toml", "--thread", "0"),
+            "--setup needs --period, --function, or --from-label",
+        ),
         (("x.elf", "--setup", "x.toml", "--thread", "0", "--from-label", "a"), "go together"),
         (
             ("x.elf", "y.toml", "--setup", "x.toml", "--thread", "0", "--function", "f"),
@@ -166,7 +177,9 @@ def test_a_setup_is_written_as_it_is_read(tmp_path: Path) -> None:
         assert read_toml(tmp_path / "own.toml")[1] == values
 
 
-@pytest.mark.parametrize(("pc", "target"), [(0, 4), (4, 0), (0x3FF8, 0), (0, 0x3FFC), (0x800, 0x1804)])
+@pytest.mark.parametrize(
+    ("pc", "target"), [(0, 4), (4, 0), (0x3FF8, 0), (0, 0x3FFC), (0x800, 0x1804)]
+)
 def test_the_word_of_a_call(pc: int, target: int) -> None:
     word = Word(pc, jump_and_link(pc, target))
     assert (word.target, word.comes_back) == (target, True)

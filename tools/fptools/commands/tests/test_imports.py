@@ -12,7 +12,12 @@ import pytest
 from fptools.testing.common import TOOLS, TOP
 
 HEAVY = {"scipy", "networkx", "jinja2", "elftools", "difflib", "xml"}
-LATE = {"fptools.budget.runs", "fptools.period.periods", "fptools.visits.visits", "fptools.budget.reports"}
+LATE = {
+    "fptools.budget.runs",
+    "fptools.period.periods",
+    "fptools.visits.visits",
+    "fptools.budget.reports",
+}
 IMPORTED = re.compile(r"^import time: .*\| +(\S+)$", re.MULTILINE)
 PID = "examples/c/pid"
 
@@ -21,7 +26,9 @@ def loaded(flexpret: str, *words: str) -> set[str]:
     """The modules that a call loads, of those above."""
     call = [sys.executable, "-X", "importtime", str(TOOLS / "fp_budget"), *words]
     environment = {**os.environ, "FLEXPRET": flexpret}
-    ran = subprocess.run(call, capture_output=True, text=True, check=False, cwd=TOP, env=environment)
+    ran = subprocess.run(
+        call, capture_output=True, text=True, check=False, cwd=TOP, env=environment
+    )
     assert ran.stdout, ran.stderr
     return set(IMPORTED.findall(ran.stderr)) & (HEAVY | LATE)
 

@@ -15,8 +15,12 @@ ELF = TOP / "examples/c/pid.elf"
 @pytest.fixture
 def bare(tmp_path: Path) -> Path:
     """A Python without packages."""
-    made = subprocess.run([DEBIAN, "-m", "venv", "--without-pip", tmp_path / "bare"], capture_output=True, check=False)
-    has = subprocess.run([DEBIAN, "-c", "import elftools, jsonschema"], capture_output=True, check=False)
+    made = subprocess.run(
+        [DEBIAN, "-m", "venv", "--without-pip", tmp_path / "bare"], capture_output=True, check=False
+    )
+    has = subprocess.run(
+        [DEBIAN, "-c", "import elftools, jsonschema"], capture_output=True, check=False
+    )
     if made.returncode or has.returncode:
         pytest.skip(f"{DEBIAN} has no module venv, or lacks the tools' packages")
     return tmp_path / "bare/bin/python3"
@@ -24,7 +28,9 @@ def bare(tmp_path: Path) -> Path:
 
 def called(*words: object, **more: str) -> subprocess.CompletedProcess[str]:
     environment = {**os.environ, **more}
-    return subprocess.run(list(map(str, words)), capture_output=True, text=True, env=environment, check=False)
+    return subprocess.run(
+        list(map(str, words)), capture_output=True, text=True, env=environment, check=False
+    )
 
 
 def test_debians_python_runs_a_tool_that_lacks_a_package(bare: Path) -> None:
@@ -35,11 +41,17 @@ def test_debians_python_runs_a_tool_that_lacks_a_package(bare: Path) -> None:
 def test_its_options_stay(bare: Path) -> None:
     """Without the folders of packages Debian's Python lacks them too."""
     ran = called(bare, "-S", TOOLS / "fp_addresses", "--elf", ELF, "main0", "main1")
-    assert ran.returncode == 2 and f"fp_addresses: {bare} (Python" in ran.stderr and "lacks pyelftools" in ran.stderr
+    assert (
+        ran.returncode == 2
+        and f"fp_addresses: {bare} (Python" in ran.stderr
+        and "lacks pyelftools" in ran.stderr
+    )
 
 
 def test_it_is_tried_once(bare: Path) -> None:
-    ran = called(bare, TOOLS / "fp_addresses", "--elf", ELF, "main0", "main1", FLEXPRET_TRIED_DEBIAN="1")
+    ran = called(
+        bare, TOOLS / "fp_addresses", "--elf", ELF, "main0", "main1", FLEXPRET_TRIED_DEBIAN="1"
+    )
     assert ran.returncode == 2 and "lacks pyelftools" in ran.stderr
 
 

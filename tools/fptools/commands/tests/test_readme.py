@@ -44,7 +44,11 @@ def test_each_command_writes_what_is_shown(flexpret: str, tmp_path: Path) -> Non
     (tmp_path / "bin").mkdir()
     (tmp_path / "bin/python3").write_text(f'#!/bin/sh\nexec {sys.executable} "$@"\n')
     (tmp_path / "bin/python3").chmod(0o755)
-    environment = {**os.environ, "FLEXPRET": flexpret, "PATH": f"{tmp_path}/bin:{os.environ['PATH']}"}
+    environment = {
+        **os.environ,
+        "FLEXPRET": flexpret,
+        "PATH": f"{tmp_path}/bin:{os.environ['PATH']}",
+    }
     blocks = shown()
     assert len(blocks) == 10
     for command, lines in blocks:

@@ -166,7 +166,11 @@ def test_inputs_that_are_there_are_replaced(tool: Tool, tmp_path: Path) -> None:
     listed.write_text("cycle,word\n0,1\n")
     text = (TOP / "examples/drive.toml").read_text()
     begin = text.index("inputs")
-    several = text[:begin] + "inputs = [   # these\n  [0, 7],\n\n  [9, 8]]  # and no others" + text[text.index("\n", begin) :]
+    several = (
+        text[:begin]
+        + "inputs = [   # these\n  [0, 7],\n\n  [9, 8]]  # and no others"
+        + text[text.index("\n", begin) :]
+    )
     for given in (text, several, several.replace("\n", "\r\n")):
         setup.write_text(given, newline="")
         ran = tool("fp_inputs", setup, listed, "--thread", 0, "--replace")
@@ -182,8 +186,16 @@ def test_inputs_that_are_there_are_replaced(tool: Tool, tmp_path: Path) -> None:
     ("setup", "thread", "line"),
     [
         ("examples/none.toml", 0, "[Errno 2] No such file or directory: 'examples/none.toml'"),
-        ("examples/drive.toml", 0, "examples/drive.toml:LINE: thread 0 has inputs: --replace takes them out"),
-        ("examples/sum.toml", 7, "examples/sum.toml has no table of thread 7: add [[thread]] with id = 7"),
+        (
+            "examples/drive.toml",
+            0,
+            "examples/drive.toml:LINE: thread 0 has inputs: --replace takes them out",
+        ),
+        (
+            "examples/sum.toml",
+            7,
+            "examples/sum.toml has no table of thread 7: add [[thread]] with id = 7",
+        ),
     ],
 )
 def test_a_setup_that_is_refused(

@@ -19,7 +19,9 @@ from model.setups import THREADS, read_setup
 PROGRAM = Path(os.environ.get("LOOP_CLI", TOP / "crates/loop_cli/out/loop_cli"))
 """The built program."""
 
-pytestmark = pytest.mark.skipif(not PROGRAM.is_file(), reason="no loop_cli: build it by rt ci, or name it by LOOP_CLI")
+pytestmark = pytest.mark.skipif(
+    not PROGRAM.is_file(), reason="no loop_cli: build it by rt ci, or name it by LOOP_CLI"
+)
 
 SEEDS = range(20_000, 20_200)
 
@@ -27,13 +29,20 @@ SEEDS = range(20_000, 20_200)
 def call(setup: str, plants: object, thread: int, every: int, cycles: int) -> list[str]:
     """The call of the program."""
     options = {"plants": plants, "thread": thread, "every": every, "cycles": cycles}
-    return [str(PROGRAM), setup, *(text for name, value in options.items() for text in (f"--{name}", str(value)))]
+    return [
+        str(PROGRAM),
+        setup,
+        *(text for name, value in options.items() for text in (f"--{name}", str(value))),
+    ]
 
 
 def drawn_tables(chance: random.Random) -> dict[int, tuple[int, ...]]:
     """Tables of one to 16 words for some threads."""
     threads = [thread for thread in range(THREADS) if chance.random() < 0.7]
-    return {thread: tuple(chance.randrange(1 << 32) for _ in range(chance.randint(1, 16))) for thread in threads}
+    return {
+        thread: tuple(chance.randrange(1 << 32) for _ in range(chance.randint(1, 16)))
+        for thread in threads
+    }
 
 
 @pytest.mark.parametrize("seed", SEEDS)
@@ -46,8 +55,12 @@ def test_a_trace_in_loops_with_tables(seed: int, tmp_path: Path) -> None:
     (tmp_path / "a.fpx").write_bytes(drawn.image)
     lines = [f"{thread} table {' '.join(map(str, table))}\n" for thread, table in tables.items()]
     (tmp_path / "plants.txt").write_text("".join(lines))
-    plants: dict[int, Plant] = {thread: sampled(TablePlant(table), every, 0) for thread, table in tables.items()}
-    world = loop_world(setup, image, [HeldPort() for _ in range(THREADS)], plants).run_to(drawn.cycles)
+    plants: dict[int, Plant] = {
+        thread: sampled(TablePlant(table), every, 0) for thread, table in tables.items()
+    }
+    world = loop_world(setup, image, [HeldPort() for _ in range(THREADS)], plants).run_to(
+        drawn.cycles
+    )
     events = list(world.retired(drawn.cycles))
     for thread in range(THREADS):
         wanted = b"".join(event.line() for event in events if event.thread == thread)
@@ -69,7 +82,9 @@ def test_a_long_run_takes_no_more_memory_than_a_short_one(tmp_path: Path) -> Non
     listed = tmp_path / "plants.txt"
     listed.write_text("".join(f"{thread} table 3 1 4 1 5\n" for thread in range(THREADS)))
     words = call("examples/loop/motor.toml", listed, 0, 1, 200000)
-    ran = subprocess.run(words, cwd=TOP, stdout=subprocess.DEVNULL, stderr=subprocess.PIPE, preexec_fn=little_memory)
+    ran = subprocess.run(
+        words, cwd=TOP, stdout=subprocess.DEVNULL, stderr=subprocess.PIPE, preexec_fn=little_memory
+    )
     assert (ran.returncode, ran.stderr) == (0, b"")
 
 
@@ -81,10 +96,16 @@ def test_a_trace_with_recorded_words(seed: int, tmp_path: Path) -> None:
     image = read_image(drawn.image, setup.size)
     (tmp_path / "a.toml").write_bytes(drawn.setup)
     (tmp_path / "a.fpx").write_bytes(drawn.image)
-    lines = [f"{thread} recorded {' '.join(map(str, words))}\n" for thread, words in recorded.items()]
+    lines = [
+        f"{thread} recorded {' '.join(map(str, words))}\n" for thread, words in recorded.items()
+    ]
     (tmp_path / "plants.txt").write_text("".join(lines))
-    plants: dict[int, Plant] = {thread: sampled(RecordedPlant(words), every, 0) for thread, words in recorded.items()}
-    world = loop_world(setup, image, [HeldPort() for _ in range(THREADS)], plants).run_to(drawn.cycles)
+    plants: dict[int, Plant] = {
+        thread: sampled(RecordedPlant(words), every, 0) for thread, words in recorded.items()
+    }
+    world = loop_world(setup, image, [HeldPort() for _ in range(THREADS)], plants).run_to(
+        drawn.cycles
+    )
     events = list(world.retired(drawn.cycles))
     for thread in range(THREADS):
         wanted = b"".join(event.line() for event in events if event.thread == thread)
@@ -117,12 +138,17 @@ def test_a_plant_at_the_pipe(tmp_path: Path) -> None:
     assert (again.returncode, again.stdout, again.stderr) == (0, trace, "")
 
 
-@pytest.mark.parametrize(("given", "said"), [("", "ended before the run"), ("0\n0x5\n", "answered no word of 32 bits")])
+@pytest.mark.parametrize(
+    ("given", "said"), [("", "ended before the run"), ("0\n0x5\n", "answered no word of 32 bits")]
+)
 def test_a_plant_at_the_pipe_that_breaks_off(given: str, said: str, tmp_path: Path) -> None:
     (tmp_path / "piped.txt").write_text("0 pipe\n")
     words = call("examples/loop/motor.toml", tmp_path / "piped.txt", 0, 100, 1000)
     ran = subprocess.run(words, cwd=TOP, input=given, capture_output=True, text=True)
-    assert (ran.returncode, ran.stderr.splitlines()[-1]) == (10, f"loop_cli: the plant at the pipe {said}")
+    assert (ran.returncode, ran.stderr.splitlines()[-1]) == (
+        10,
+        f"loop_cli: the plant at the pipe {said}",
+    )
 
 
 FAULT = (
@@ -150,7 +176,11 @@ def test_a_list_that_is_too_long(tmp_path: Path) -> None:
     listed.write_bytes(b"0 motor 3\n" + b"\n" * (64 << 20))
     words = call("examples/loop/motor.toml", listed, 0, 100, 1000)
     ran = subprocess.run(words, cwd=TOP, capture_output=True, text=True)
-    assert (ran.returncode, ran.stdout, ran.stderr) == (2, "", "loop_cli: the list of plants has more than 64 megabytes\n")
+    assert (ran.returncode, ran.stdout, ran.stderr) == (
+        2,
+        "",
+        "loop_cli: the list of plants has more than 64 megabytes\n",
+    )
 
 
 USAGE = "loop_cli: usage: loop_cli SETUP --plants FILE --thread i --every n --cycles n\n"
@@ -161,17 +191,38 @@ USAGE = "loop_cli: usage: loop_cli SETUP --plants FILE --thread i --every n --cy
     [{"--thread": "8"}, {"--every": "0"}, {"--cycles": "4000000001"}, {"--cycles": "1e3"}, {"--plants": ""}, {"--turns": "1"}],
 )  # fmt: skip
 def test_arguments_that_give_no_run(wrong: dict[str, str]) -> None:
-    options = {"--plants": "examples/loop/plants.txt", "--thread": "0", "--every": "100", "--cycles": "1000", **wrong}
-    words = [str(PROGRAM), "examples/loop/motor.toml", *(text for pair in options.items() for text in pair)]
+    options = {
+        "--plants": "examples/loop/plants.txt",
+        "--thread": "0",
+        "--every": "100",
+        "--cycles": "1000",
+        **wrong,
+    }
+    words = [
+        str(PROGRAM),
+        "examples/loop/motor.toml",
+        *(text for pair in options.items() for text in pair),
+    ]
     ran = subprocess.run(words, cwd=TOP, capture_output=True, text=True)
     assert (ran.returncode, ran.stdout, ran.stderr) == (2, "", USAGE)
 
 
 def test_options_in_another_order_and_with_equals(tmp_path: Path) -> None:
-    words = ["--cycles=1000", "--every", "100", "examples/loop/motor.toml", "--thread=0", "--plants", "examples/loop/plants.txt"]
+    words = [
+        "--cycles=1000",
+        "--every",
+        "100",
+        "examples/loop/motor.toml",
+        "--thread=0",
+        "--plants",
+        "examples/loop/plants.txt",
+    ]
     ran = [
         subprocess.run(it, cwd=TOP, capture_output=True, check=True).stdout
-        for it in ([str(PROGRAM), *words], call("examples/loop/motor.toml", "examples/loop/plants.txt", 0, 100, 1000))
+        for it in (
+            [str(PROGRAM), *words],
+            call("examples/loop/motor.toml", "examples/loop/plants.txt", 0, 100, 1000),
+        )
     ]
     assert ran[0] == ran[1] and ran[0]
 

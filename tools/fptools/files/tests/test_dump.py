@@ -39,7 +39,9 @@ def test_the_state_of_a_machine(tmp_path: Path) -> None:
     assert thread.registers[5:8] == (42, 0x2000_0000, 0x4000_0000)
     assert (thread.mscratch, thread.latch, state.data[0x2000_0008]) == (42, 42, 42)
     start = next(
-        it.cycle for it in issues_of(made.setup.read_text(), made.image, 60) if it.word & 0x707F == 0x0B
+        it.cycle
+        for it in issues_of(made.setup.read_text(), made.image, 60)
+        if it.word & 0x707F == 0x0B
     )
     assert (thread.armed, thread.sleep) == (10 * start + 400, 10 * start + 400)
     assert state.threads[1].registers == (0,) * 32 and state.threads[1].armed is None
@@ -49,7 +51,11 @@ def test_the_state_of_a_machine(tmp_path: Path) -> None:
 def test_turns_in_the_stages(tmp_path: Path) -> None:
     made = make(tmp_path, "        lw   x5, 0(x0)\n        nop\n", 0, "T0 D D D D D D D")
     state = read_dump(written(tmp_path, "dump", made.setup, "--cycles", 4))
-    assert (state.fetching, state.stages["M"], state.stages["E"]) == (0, Turn(0, 0, 0x0000_2283), Turn(0))
+    assert (state.fetching, state.stages["M"], state.stages["E"]) == (
+        0,
+        Turn(0, 0, 0x0000_2283),
+        Turn(0),
+    )
     assert state.stages["E"].is_flushed and not state.stages["M"].is_flushed
     assert read_dump(written(tmp_path, "dump", made.setup, "--cycles", 0)).stages["W"] == Turn()
 

@@ -64,4 +64,7 @@ def test_a_cut_file_is_no_fault_of_the_tool(tool: Tool, tmp_path: Path) -> None:
     cut = tmp_path / "cut.elf"
     cut.write_bytes(LOOPS.read_bytes()[:1000])
     ran = tool("fp_loops", cut, "--from", "0", "--to", "8")
-    assert (ran.returncode, ran.stderr) == (2, f"fp_loops: {cut} is no ELF file: String Table not found\n")
+    assert (ran.returncode, ran.stderr) == (
+        2,
+        f"fp_loops: {cut} is no ELF file: String Table not found\n",
+    )

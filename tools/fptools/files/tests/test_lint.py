@@ -7,7 +7,9 @@ from pathlib import Path
 import pytest
 from fptools.testing.common import TOP, Tool
 
-TOO_MANY = "warning: loop[0].bound: the code counts 8 rounds, which is bound = 7; 8 is more than that"
+TOO_MANY = (
+    "warning: loop[0].bound: the code counts 8 rounds, which is bound = 7; 8 is more than that"
+)
 SUM = (TOP / "examples/sum.toml").read_text()
 QUIET = "examples/loop/quiet.toml"
 """The closed loop without the other threads."""
@@ -39,7 +41,9 @@ def changed(*changes: tuple[str, str]) -> str:
 
 def test_a_setup_whose_image_is_made_later(tool: Tool) -> None:
     ran = tool("fp_lint", UNBUILT)
-    text = "4: warning: image: current/current.fpx can't be read from here: No such file or directory"
+    text = (
+        "4: warning: image: current/current.fpx can't be read from here: No such file or directory"
+    )
     assert (ran.returncode, ran.stdout, ran.stderr) == (1, f"{UNBUILT}:{text}\n", "")
 
 
@@ -100,7 +104,9 @@ def test_what_is_seldom_meant(tool: Tool, tmp_path: Path, old: str, new: str, fi
     status, lines = said(
         tool,
         tmp_path,
-        changed((f'{old}"' if old.endswith("fpx") else old, f'{new}"' if old.endswith("fpx") else new)),
+        changed(
+            (f'{old}"' if old.endswith("fpx") else old, f'{new}"' if old.endswith("fpx") else new)
+        ),
     )
     assert status == 1
     assert lines == [finding]
@@ -120,7 +126,10 @@ def image_of(*numbers: int, after: bytes = b"") -> bytes:
         (image_of(1, 0, 0), "a segment of 0 bytes at 0x0"),
         (image_of(1, 0x4000_0000, 4, 0x13), "a segment of 4 bytes at 0x40000000"),
         (image_of(1, 0xFFFC, 8, 0x13, 0x13), "a segment of 8 bytes at 0xfffc"),
-        (image_of(2, 0, 8, 0x13, 0x13, 4, 4, 0x13), "the segment at 0x4 isn't behind the one before"),
+        (
+            image_of(2, 0, 8, 0x13, 0x13, 4, 4, 0x13),
+            "the segment at 0x4 isn't behind the one before",
+        ),
         (image_of(1, 0, 4, 0x13, after=b"\n"), "bytes follow its last segment"),
     ],
 )
@@ -138,13 +147,17 @@ def test_images_that_the_program_refuses(
 def test_an_image_beside_the_setup_is_named(tool: Tool, tmp_path: Path) -> None:
     (tmp_path / "own.fpx").write_bytes((TOP / "examples/sum.fpx").read_bytes())
     _, lines = said(tool, tmp_path, changed(('examples/sum.fpx"', 'own.fpx"')))
-    assert lines[0].endswith(f"; {tmp_path}/own.fpx is there: names are relative to the folder of the call")
+    assert lines[0].endswith(
+        f"; {tmp_path}/own.fpx is there: names are relative to the folder of the call"
+    )
 
 
 def test_an_expiry_without_a_handler(tool: Tool, tmp_path: Path) -> None:
     image = tmp_path / "expiry.fpx"
     words = b"\x0b\xc0\xa5\x00" + b"\x6f\x00\x00\x00"  # ee x11, x10; j .
-    image.write_bytes(b"FPX1" + b"".join(it.to_bytes(4, "little") for it in (1, 0, len(words))) + words)
+    image.write_bytes(
+        b"FPX1" + b"".join(it.to_bytes(4, "little") for it in (1, 0, len(words))) + words
+    )
     text = SUM[: SUM.index("[[loop]]")].replace("examples/sum.fpx", str(image))
     _, lines = said(tool, tmp_path, text)
     assert lines == [
@@ -155,7 +168,10 @@ def test_an_expiry_without_a_handler(tool: Tool, tmp_path: Path) -> None:
 def test_notes_are_shown_on_request(tool: Tool, tmp_path: Path) -> None:
     status, lines = said(tool, tmp_path, SUM, "--notes")
     assert status == 0
-    assert "23: note: thread[0].entry: nothing sets mtvec, which is 0: a trap goes to address 0" in lines
+    assert (
+        "23: note: thread[0].entry: nothing sets mtvec, which is 0: a trap goes to address 0"
+        in lines
+    )
 
 
 def test_what_is_no_toml(tool: Tool, tmp_path: Path) -> None:
@@ -189,23 +205,33 @@ def test_the_other_setups_are_looked_at_where_one_is_not_there(tool: Tool, tmp_p
     ],
     ids=("value", "end", "bytes", "digits", "nest", "long", "comma", "zero", "table"),
 )  # fmt: skip
-def test_lines_of_setups_of_any_bytes(tool: Tool, tmp_path: Path, old: str, new: str, finding: str) -> None:
+def test_lines_of_setups_of_any_bytes(
+    tool: Tool, tmp_path: Path, old: str, new: str, finding: str
+) -> None:
     setup = tmp_path / "setup.toml"
     setup.write_bytes(changed((old, new)).encode("utf-8", "surrogateescape"))
     ran = tool("fp_lint", setup)
     assert (ran.returncode, ran.stderr) == (1, "")
-    assert any(line.startswith(f"{setup}:{finding}") for line in ran.stdout.splitlines()), ran.stdout
+    assert any(
+        line.startswith(f"{setup}:{finding}") for line in ran.stdout.splitlines()
+    ), ran.stdout
 
 
-def test_lines_go_on_behind_unicodes_separators_and_commas_in_texts(tool: Tool, tmp_path: Path) -> None:
+def test_lines_go_on_behind_unicodes_separators_and_commas_in_texts(
+    tool: Tool, tmp_path: Path
+) -> None:
     head = "# \u2028 \u0085 \u2029\nimage = 'x,#y'\n"
     setup = tmp_path / "setup.toml"
-    setup.write_text(head + changed(('image = "examples/sum.fpx"', ""), ("bound = 7", "bound = -1")))
+    setup.write_text(
+        head + changed(('image = "examples/sum.fpx"', ""), ("bound = 7", "bound = -1"))
+    )
     ran = tool("fp_lint", setup)
     assert ran.stdout == f"{setup}:34: error: loop[0].bound: -1 is less than the minimum of 0\n"
 
 
 def test_a_byte_order_mark_and_returns_are_passed_over(tool: Tool, tmp_path: Path) -> None:
     setup = tmp_path / "setup.toml"
-    setup.write_bytes(b"\xef\xbb\xbf" + changed(("bound = 7", "bound = 8")).replace("\n", "\r\n").encode())
+    setup.write_bytes(
+        b"\xef\xbb\xbf" + changed(("bound = 7", "bound = 8")).replace("\n", "\r\n").encode()
+    )
     assert tool("fp_lint", setup).stdout == f"{setup}:32: {TOO_MANY}\n"

@@ -36,7 +36,10 @@ def test_a_setup_that_is_refused_is_told_with_its_line(tmp_path: Path) -> None:
     ("text", "answer"),
     [
         ("bound 184\n", Bound(184)),
-        ("refused setup 6 OutOfRange thread[2].entry", Refusal("setup", 6, "OutOfRange", "thread[2].entry")),
+        (
+            "refused setup 6 OutOfRange thread[2].entry",
+            Refusal("setup", 6, "OutOfRange", "thread[2].entry"),
+        ),
         ("refused setup 2 Toml -", Refusal("setup", 2, "Toml", "-")),
         ("refused section 1 NotHard", Refusal("section", 1, "NotHard", "")),
         ("refused image 3 Truncated 12", Refusal("image", 3, "Truncated", "12")),
@@ -60,7 +63,9 @@ def test_the_word_without_a_bound_has_an_address() -> None:
         assert isinstance(found, Refusal) and found.address == address
 
 
-@pytest.mark.parametrize("text", ["", "bound", "bound x", "refused", "refused source 4 3", "flexpret: usage"])
+@pytest.mark.parametrize(
+    "text", ["", "bound", "bound x", "refused", "refused source 4 3", "flexpret: usage"]
+)
 def test_another_text_is_no_answer(text: str) -> None:
     with pytest.raises(NoAnswer, match="neither a bound nor a refusal"):
         read_answer(text)

@@ -16,11 +16,15 @@ BEYOND_SCHEMA = ("OutOfRange", "ConfinedPermit", "DoubleThread")
 def rows() -> dict[str, tuple[str, str]]:
     """By its name, a row's setup and what is read of it: the first line, as `refused 7 BadSlot slots[3]`."""
     found = {}
-    for row in (TOP / "crates/unit_rows/data/setups.txt").read_text(encoding="utf-8").split("=== ")[1:]:
+    for row in (
+        (TOP / "crates/unit_rows/data/setups.txt").read_text(encoding="utf-8").split("=== ")[1:]
+    ):
         name, *lines = row.splitlines()
         end = next((at for at, line in enumerate(lines) if line.startswith("--- ")), len(lines))
         if ": " not in name:  # which are of other things than setups
-            found[name] = "".join(line + "\n" for line in lines[:end]), lines[end].removeprefix("--- ")
+            found[name] = "".join(line + "\n" for line in lines[:end]), lines[end].removeprefix(
+                "--- "
+            )
     return found
 
 

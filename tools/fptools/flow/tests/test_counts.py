@@ -38,10 +38,20 @@ BEQ, BNE, BLT, BLTU = 0, 1, 4, 6
             (BLT, 1, 2),
             1,
         ),  # the first round is made in any case
-        ([addi(1, 0, -5), addi(2, 0, 10)], [addi(1, 1, 1)], (BLTU, 1, 2), 1),  # -5 is large without a sign
+        (
+            [addi(1, 0, -5), addi(2, 0, 10)],
+            [addi(1, 1, 1)],
+            (BLTU, 1, 2),
+            1,
+        ),  # -5 is large without a sign
         ([addi(2, 1, -4)], [addi(1, 1, 1)], (BLT, 1, 2), None),  # what isn't known may wrap
         ([addi(2, 1, 8)], [addi(1, 1, 4)], (BLTU, 1, 2), 2),
-        ([addi(2, 1, 8), addi(1, 1, 32)], [addi(1, 1, 4)], (BLTU, 1, 2), None),  # beyond its limit, it may wrap
+        (
+            [addi(2, 1, 8), addi(1, 1, 32)],
+            [addi(1, 1, 4)],
+            (BLTU, 1, 2),
+            None,
+        ),  # beyond its limit, it may wrap
         ([addi(2, 1, 0)], [addi(1, 1, 4)], (BLTU, 1, 2), None),
         ([addi(1, 0, 8)], [addi(1, 1, -3)], (BNE, 1, 0), None),  # it passes its limit
         ([addi(1, 0, 8)], [addi(1, 1, 1)], (BNE, 1, 0), None),  # it goes away from its limit
@@ -63,7 +73,9 @@ BEQ, BNE, BLT, BLTU = 0, 1, 4, 6
         ([addi(1, 0, 8)], [addi(1, 1, -1)], (BEQ, 1, 0), 1),  # it goes on at its limit alone
     ],
 )
-def test_loops(before: list[int], body: list[int], back: tuple[int, int, int], rounds: int | None) -> None:
+def test_loops(
+    before: list[int], body: list[int], back: tuple[int, int, int], rounds: int | None
+) -> None:
     head, last = 4 * len(before), 4 * len(before + body)
     code = [*before, *body, branch(*back, head - last)]
     words = {4 * at: word for at, word in enumerate(code)}
@@ -89,12 +101,37 @@ BGE, BGEU = 5, 7
     [
         ([addi(1, 0, 8)], [addi(1, 1, -1)], (BGE, 1, 0), 8),  # down to 0, and one below
         ([addi(1, 0, 5), addi(2, 0, 9)], [addi(1, 1, -1)], (BLTU, 1, 2), 5),  # until it wraps
-        ([addi(1, 0, 0), addi(2, 0, 10)], [addi(1, 1, 3)], (BGE, 2, 1), 3),  # 3, 6, 9 are at most 10
-        ([addi(1, 0, 0), addi(2, 0, 10)], [addi(1, 1, 1), addi(2, 2, -1)], (BLT, 1, 2), 4),  # both move
+        (
+            [addi(1, 0, 0), addi(2, 0, 10)],
+            [addi(1, 1, 3)],
+            (BGE, 2, 1),
+            3,
+        ),  # 3, 6, 9 are at most 10
+        (
+            [addi(1, 0, 0), addi(2, 0, 10)],
+            [addi(1, 1, 1), addi(2, 2, -1)],
+            (BLT, 1, 2),
+            4,
+        ),  # both move
         ([addi(1, 0, 8)], [addi(1, 1, -1)] * 4, (BNE, 1, 0), 1),  # unrolled by four
-        ([addi(1, 0, 1), addi(2, 0, 0)], [addi(1, 1, 2)], (BNE, 1, 2), None),  # odd numbers pass 0 forever
-        ([addi(1, 0, 0), addi(2, 0, -1)], [addi(1, 1, 1)], (BLTU, 1, 2), None),  # four thousand million rounds
-        ([addi(2, 1, 32)], [addi(1, 1, 8), NOP, addi(1, 1, 8)], (BLTU, 1, 2), 1),  # to an address that isn't known
+        (
+            [addi(1, 0, 1), addi(2, 0, 0)],
+            [addi(1, 1, 2)],
+            (BNE, 1, 2),
+            None,
+        ),  # odd numbers pass 0 forever
+        (
+            [addi(1, 0, 0), addi(2, 0, -1)],
+            [addi(1, 1, 1)],
+            (BLTU, 1, 2),
+            None,
+        ),  # four thousand million rounds
+        (
+            [addi(2, 1, 32)],
+            [addi(1, 1, 8), NOP, addi(1, 1, 8)],
+            (BLTU, 1, 2),
+            1,
+        ),  # to an address that isn't known
         ([addi(2, 1, 24)], [addi(1, 1, 16)], (BNE, 1, 2), None),  # it passes the address
         ([addi(1, 0, 16), addi(2, 0, 4)], [addi(1, 1, -2)], (BGEU, 1, 2), 6),
     ],

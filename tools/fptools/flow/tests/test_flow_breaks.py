@@ -7,7 +7,18 @@ from pathlib import Path
 
 import pytest
 from fptools.testing.common import TOP
-from fptools.flow.tests.flow_build import CLANG, GCC, HEAD, LD, LINK, LLD, bounds, built, run, stated
+from fptools.flow.tests.flow_build import (
+    CLANG,
+    GCC,
+    HEAD,
+    LD,
+    LINK,
+    LLD,
+    bounds,
+    built,
+    run,
+    stated,
+)
 from fptools.files.elf import Program
 from fptools.flow.inference import Inference, StatedLoop
 from fptools.layout.loop_marks import with_records

@@ -50,7 +50,11 @@ def test_a_loop_that_nothing_bounds(tool: Tool) -> None:
 
 
 def test_an_old_comment_is_told_once(tool: Tool, tmp_path: Path) -> None:
-    text = (TOOLS / "fptools/testing/loops.c").read_text().replace("index++)", "index++) /* @rounds 4 */")
+    text = (
+        (TOOLS / "fptools/testing/loops.c")
+        .read_text()
+        .replace("index++)", "index++) /* @rounds 4 */")
+    )
     (tmp_path / "loops.c").write_text(text.replace("row++) {", "row++) { /* @rounds 3 */"))
     made = (TOOLS / "fptools/testing/loops.elf").stat().st_mtime_ns
     os.utime(tmp_path / "loops.c", ns=(made, made))
@@ -82,7 +86,10 @@ def test_without_an_end_the_function_is_the_section(tool: Tool) -> None:
     assert ran.stdout.endswith("# 0x24 sum_of+0x24: returns\n")
     assert ran.returncode == 0
     ran = tool("fp_loops", "examples/c/pid.elf", "--from", "start0")
-    assert (ran.returncode, ran.stderr) == (2, "fp_loops: start0 is in no function, so --to is needed\n")
+    assert (ran.returncode, ran.stderr) == (
+        2,
+        "fp_loops: start0 is in no function, so --to is needed\n",
+    )
 
 
 @pytest.mark.parametrize(
@@ -94,5 +101,7 @@ def test_the_loops_of_the_examples_are_those_of_their_setups(
 ) -> None:
     section = walk(read_image(TOP / f"examples/{setup}.fpx"), start, end, routines)
     tables = read_setup(TOP / f"examples/{setup}.toml").values["loop"]
-    assert [(it.head, it.last) for it in section.loops] == [(it["head"], it["last"]) for it in tables]
+    assert [(it.head, it.last) for it in section.loops] == [
+        (it["head"], it["last"]) for it in tables
+    ]
     assert section.callees == set(routines)

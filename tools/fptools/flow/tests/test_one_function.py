@@ -8,7 +8,20 @@ from pathlib import Path
 
 import pytest
 from fptools.testing.common import TOOLS, TOP
-from fptools.flow.tests.flow_build import CLANG, GCC, HEAD, LD, LINK, LLD, MAIN, OPTIONS, bounds, built, run, stated
+from fptools.flow.tests.flow_build import (
+    CLANG,
+    GCC,
+    HEAD,
+    LD,
+    LINK,
+    LLD,
+    MAIN,
+    OPTIONS,
+    bounds,
+    built,
+    run,
+    stated,
+)
 from fptools.layout.loop_marks import with_records
 from fptools.flow.one_function import is_one, without_twins
 

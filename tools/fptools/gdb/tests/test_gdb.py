@@ -342,7 +342,9 @@ def test_monitor(pid: Client) -> None:
 
 def test_a_refused_bound_is_explained(pid: Client) -> None:
     told = pid.monitor("bound 0xb4 0x1a8")
-    assert told.startswith("monitor bound: T0 has no bound there: refused bound 3 TimedWait 000001a4\n")
+    assert told.startswith(
+        "monitor bound: T0 has no bound there: refused bound 3 TimedWait 000001a4\n"
+    )
     assert "error: TimedWait at 0x1a4 step_end: " in told
     assert "a wait takes as long as its moment says: end the section before it" in told
 

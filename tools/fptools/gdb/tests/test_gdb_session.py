@@ -303,15 +303,27 @@ def test_emacs_stops_and_steps_both_ways(folder: Folder, mode: str) -> None:
     if shutil.which("emacs") is None:
         pytest.skip("emacs isn't installed (Debian: emacs-nox)")
     page = (TOOLS / "README.md").read_text()
-    call = {"gud-gdb": "gdb-multiarch --fullname own/pid.elf", "gdb": "gdb-multiarch -i=mi own/pid.elf"}[mode]
+    call = {
+        "gud-gdb": "gdb-multiarch --fullname own/pid.elf",
+        "gdb": "gdb-multiarch -i=mi own/pid.elf",
+    }[mode]
     assert f"`M-x {mode}` with `{call}`" in page and f"(gdb) cd ..\n    (gdb) {CONNECT}\n" in page
     line = line_of(folder, "integral = limited(") - 1
-    environment = folder.environment | {"MODE": mode, "CALL": call, "CONNECT": CONNECT, "LINE": str(line)}
+    environment = folder.environment | {
+        "MODE": mode,
+        "CALL": call,
+        "CONNECT": CONNECT,
+        "LINE": str(line),
+    }
     ran = subprocess.run(
         ["emacs", "--batch", "-Q", "-l", str(TOOLS / "fptools/gdb/tests/emacs.el")], cwd=folder.path, env=environment,
         capture_output=True, text=True, check=False, timeout=6 * SECONDS,
     )  # fmt: skip
-    assert ran.stdout.splitlines() == [f"line {line}", f"line {line + 1}", f"line {line}"], ran.stderr
+    assert ran.stdout.splitlines() == [
+        f"line {line}",
+        f"line {line + 1}",
+        f"line {line}",
+    ], ran.stderr
 
 
 def connected(folder: Folder, machine: Machine, name: str) -> Path:

@@ -64,11 +64,24 @@ def test_timing_instructions(bits: int, flow: Flow, text: str | None) -> None:
 
 
 OPCODES = sorted({form.bits & 0x7F for form in FORMS})
-NAMES = {"Rw": "csrrw", "Rs": "csrrs", "Rc": "csrrc", "Rwi": "csrrwi", "Rsi": "csrrsi", "Rci": "csrrci"}
+NAMES = {
+    "Rw": "csrrw",
+    "Rs": "csrrs",
+    "Rc": "csrrc",
+    "Rwi": "csrrwi",
+    "Rsi": "csrrsi",
+    "Rci": "csrrci",
+}
 
 
-@given(st.integers(0, 2**25 - 1), st.sampled_from(OPCODES) | st.integers(0, 127), st.sampled_from([0, 1, 32, None]))
-def test_words_are_the_instructions_of_the_model(upper: int, opcode: int, funct7: int | None) -> None:
+@given(
+    st.integers(0, 2**25 - 1),
+    st.sampled_from(OPCODES) | st.integers(0, 127),
+    st.sampled_from([0, 1, 32, None]),
+)
+def test_words_are_the_instructions_of_the_model(
+    upper: int, opcode: int, funct7: int | None
+) -> None:
     """By another decoder: name and operands, and the word that the operands make again."""
     bits = upper << 7 | opcode
     if funct7 is not None:
@@ -82,7 +95,10 @@ def test_words_are_the_instructions_of_the_model(upper: int, opcode: int, funct7
     assert form.word(*values.values()) == bits
     numbers = {values[letter] for letter in "iohubj" if letter in values}
     assert numbers <= {wanted.imm} and values.get("d", wanted.rd) == wanted.rd
-    assert values.get("s", values.get("z", wanted.rs1)) == wanted.rs1 and values.get("c", wanted.csr) == wanted.csr
+    assert (
+        values.get("s", values.get("z", wanted.rs1)) == wanted.rs1
+        and values.get("c", wanted.csr) == wanted.csr
+    )
     if wanted.kind in ("Jal", "Branch"):
         assert target(PC, bits) == (PC + wanted.imm) % 2**32
 

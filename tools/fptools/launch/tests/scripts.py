@@ -53,7 +53,11 @@ class Checkout:
         self.source = folder / "crates/low/src/lib.rt"
         (folder / "crates.txt").write_text(CRATES)
         shutil.copy(TOP / script, folder / script)
-        shutil.copytree(TOOLS, folder / "tools", ignore=shutil.ignore_patterns("tests", "__pycache__", "fp_refusal"))
+        shutil.copytree(
+            TOOLS,
+            folder / "tools",
+            ignore=shutil.ignore_patterns("tests", "__pycache__", "fp_refusal"),
+        )
         (folder / "bin").mkdir()
         (folder / "bin/rt").write_text(RT)
         (folder / "bin/rt").chmod(0o755)
@@ -69,7 +73,9 @@ class Checkout:
         assert self.run(*self.words).returncode == 0
         self.log.unlink(missing_ok=True)
 
-    def run(self, *words: str, cwd: Path | None = None, given: str = "", **named: str) -> subprocess.CompletedProcess[str]:
+    def run(
+        self, *words: str, cwd: Path | None = None, given: str = "", **named: str
+    ) -> subprocess.CompletedProcess[str]:
         return subprocess.run(
             [str(self.folder / self.script), *words], cwd=cwd or self.folder, env={**self.environment, **named}, input=given,
             capture_output=True, text=True, check=False, timeout=60,

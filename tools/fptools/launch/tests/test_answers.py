@@ -41,7 +41,9 @@ def test_a_bound_that_ends_at_a_call_is_warned_of(checkout: Checkout) -> None:
 def test_a_bound_of_no_code_is_warned_of(checkout: Checkout) -> None:
     first, second = bound(checkout, 0, "0x800", "0x818")
     assert first == "flexpret: warning: 00000800: no instruction is there, and the bound ends there"
-    assert second.startswith("flexpret: warning: the bound is 0: no path from 00000800 leaves the section after a cycle")
+    assert second.startswith(
+        "flexpret: warning: the bound is 0: no path from 00000800 leaves the section after a cycle"
+    )
 
 
 def test_a_bound_that_ends_at_the_sections_end_is_not_warned_of(checkout: Checkout) -> None:
@@ -91,16 +93,28 @@ def test_a_listing_is_made_of_an_image_that_is_there(checkout: Checkout) -> None
 
 def test_names_are_replaced_by_addresses(checkout: Checkout) -> None:
     checkout.build()
-    put_tool(checkout, "fp_addresses", "print(asked, file=open('tool', 'w')); print('0x00000010'); print('0x0000003c')")
-    ran = checkout.run("bound", "x.toml", "--thread", "0", "--from", "loop", "--to=loop+4", "--map", "m")
+    put_tool(
+        checkout,
+        "fp_addresses",
+        "print(asked, file=open('tool', 'w')); print('0x00000010'); print('0x0000003c')",
+    )
+    ran = checkout.run(
+        "bound", "x.toml", "--thread", "0", "--from", "loop", "--to=loop+4", "--map", "m"
+    )
     assert ran.stdout == "8:bound x.toml --thread 0 --from 0x00000010 --to 0x0000003c\n"
     assert (checkout.folder / "tool").read_text() == "--map m loop loop+4\n"
-    ran = checkout.run("calls", "x.toml", "--thread", "0", "--from", "f", "--to", "g", "--elf", "x.elf")
+    ran = checkout.run(
+        "calls", "x.toml", "--thread", "0", "--from", "f", "--to", "g", "--elf", "x.elf"
+    )
     routines = ran.stdout.split()[5]
     assert not Path(routines).exists()
-    assert (checkout.folder / "tool").read_text() == f"--elf x.elf --setup x.toml --routines {routines} f g\n"
+    assert (
+        checkout.folder / "tool"
+    ).read_text() == f"--elf x.elf --setup x.toml --routines {routines} f g\n"
     put_tool(checkout, "fp_addresses", "sys.stderr.write('fp_addresses: no f\\n'); sys.exit(2)")
-    ran = checkout.run("bound", "x.toml", "--thread", "0", "--from", "f", "--to", "g", "--elf", "x.elf")
+    ran = checkout.run(
+        "bound", "x.toml", "--thread", "0", "--from", "f", "--to", "g", "--elf", "x.elf"
+    )
     assert (ran.returncode, ran.stderr) == (NOT_BUILT, "fp_addresses: no f\n")
 
 
@@ -129,7 +143,11 @@ def test_a_refusal_is_explained_by_its_tool(checkout: Checkout) -> None:
 def without_packages(checkout: Checkout) -> None:
     """Gives a checkout a Python of the standard library alone, and what fp_refusal and fp_disasm read."""
     shutil.copy(TOOLS / "fp_refusal", checkout.folder / "tools")
-    shutil.copytree(TOP / "model", checkout.folder / "model", ignore=shutil.ignore_patterns("tests", "__pycache__"))
+    shutil.copytree(
+        TOP / "model",
+        checkout.folder / "model",
+        ignore=shutil.ignore_patterns("tests", "__pycache__"),
+    )
     (checkout.folder / "examples").symlink_to(TOP / "examples")
     bare = checkout.folder / "bin/python3"
     bare.write_text(f'#!/bin/sh\nexec {shlex.quote(sys.executable)} -S "$@"\n')
@@ -144,18 +162,26 @@ def test_a_refusal_is_explained_by_a_python_without_packages(checkout: Checkout)
     (checkout.folder / "x.s").write_text(" adi x1, x1, 1\n")
 
     def told(line: str, *words: str) -> str:
-        ran = checkout.run(*words, SEEN={"source": "5", "bound": "6"}.get(line.split()[1], "3"), LINE=line)
+        ran = checkout.run(
+            *words, SEEN={"source": "5", "bound": "6"}.get(line.split()[1], "3"), LINE=line
+        )
         assert ran.stdout == f"{line}\n"
         return ran.stderr
 
-    assert told("refused source 1 3 UnknownName", "asm", "x.s").startswith("x.s:1:2: error: unknown mnemonic 'adi'\n")
+    assert told("refused source 1 3 UnknownName", "asm", "x.s").startswith(
+        "x.s:1:2: error: unknown mnemonic 'adi'\n"
+    )
     words = ("bound", "examples/sum.toml", "--thread=0", "--from=0", "--to=4")
-    assert told("refused bound 3 TimedWait 00000040", *words).startswith("error: TimedWait at 0x40: wu x11, x10\n")
+    assert told("refused bound 3 TimedWait 00000040", *words).startswith(
+        "error: TimedWait at 0x40: wu x11, x10\n"
+    )
     dump = ("dump", "examples/sum.toml", "--cycles", "1")
     assert told("refused setup 7 BadSlot slots[3]", *dump) == (
         "examples/sum.toml:13: error: slots[3]: a slot is one of T0 to T7, S and D\n"
     )
-    assert told("refused setup 3 UnknownKey top", *dump).startswith("examples/sum.toml:1: error: this table has an unknown key: ")
+    assert told("refused setup 3 UnknownKey top", *dump).startswith(
+        "examples/sum.toml:1: error: this table has an unknown key: "
+    )
 
 
 def test_a_missing_package_is_one_line_and_a_status_of_its_own(checkout: Checkout) -> None:
@@ -188,13 +214,22 @@ ASKED = ("run", "examples/drive.toml", "--thread", "0", "--cycles", "9")
         ("id = 0", "id = 0", ("0", "99"), ""),
     ],
 )  # fmt: skip
-def test_a_run_without_an_event_says_why(checkout: Checkout, old: str, new: str, words: tuple[str, str], why: str) -> None:
+def test_a_run_without_an_event_says_why(
+    checkout: Checkout, old: str, new: str, words: tuple[str, str], why: str
+) -> None:
     without_packages(checkout)
-    (checkout.folder / "it.toml").write_text((TOP / "examples/sum.toml").read_text().replace(old, new))
+    (checkout.folder / "it.toml").write_text(
+        (TOP / "examples/sum.toml").read_text().replace(old, new)
+    )
     ran = checkout.run("--model", "run", "it.toml", "--thread", words[0], f"--cycles={words[1]}")
     assert (ran.returncode, ran.stdout == "") == (0, bool(why)), ran.stderr
     assert ran.stderr == BY_MODEL + (f"flexpret: {why}\n" if why else "")
-    assert checkout.run("--quiet", "--model", "run", "it.toml", "--thread", "5", "--cycles", "9").stderr == ""
+    assert (
+        checkout.run(
+            "--quiet", "--model", "run", "it.toml", "--thread", "5", "--cycles", "9"
+        ).stderr
+        == ""
+    )
 
 
 def test_an_answer_by_the_model(checkout: Checkout) -> None:
@@ -209,39 +244,69 @@ def test_an_answer_by_the_model(checkout: Checkout) -> None:
         assert ran.stdout.startswith("         0 00000000 ") and not checkout.log.exists()
     assert checkout.run("--quiet", "--model", *ASKED).stderr == ""
     ran = checkout.run("--model", "run", "examples/none.toml", "--thread", "0", "--cycles", "9")
-    assert ran.returncode == 7 and ran.stderr.startswith(f"{BY_MODEL}flexpret: read failed\nflexpret: examples/none.toml: ")
+    assert ran.returncode == 7 and ran.stderr.startswith(
+        f"{BY_MODEL}flexpret: read failed\nflexpret: examples/none.toml: "
+    )
     ran = checkout.run("--model", "run", "--thread", "9")
-    assert ran.returncode == 2 and ran.stderr.splitlines()[1] == "flexpret: --thread 9: threads are 0 to 7"
-    assert checkout.run("--model", "--version").stdout == "flexpret: the model in Python: nothing of its answers is proved\n"
+    assert (
+        ran.returncode == 2
+        and ran.stderr.splitlines()[1] == "flexpret: --thread 9: threads are 0 to 7"
+    )
+    assert (
+        checkout.run("--model", "--version").stdout
+        == "flexpret: the model in Python: nothing of its answers is proved\n"
+    )
 
 
-def test_the_model_stands_by_itself(checkout: Checkout, tmp_path_factory: pytest.TempPathFactory) -> None:
+def test_the_model_stands_by_itself(
+    checkout: Checkout, tmp_path_factory: pytest.TempPathFactory
+) -> None:
     ran = checkout.run("--model", "--unproved", *ASKED)
     said = "flexpret: --model is given with another way to the answer: --use or --unproved\n"
     assert (ran.returncode, ran.stdout, ran.stderr) == (2, "", said)
     view = Checkout(tmp_path_factory.mktemp("view"), "flexpret-view", "flexpret_view")
     ran = view.run("--model", *TURNS)
-    assert (ran.returncode, ran.stderr) == (2, "flexpret-view: --model is for ./flexpret: the view has no model\n")
+    assert (ran.returncode, ran.stderr) == (
+        2,
+        "flexpret-view: --model is for ./flexpret: the view has no model\n",
+    )
 
 
 def test_tools_ask_the_model(checkout: Checkout) -> None:
     checkout.folder.joinpath("examples").symlink_to(TOP / "examples")
-    shutil.copytree(TOP / "model", checkout.folder / "model", ignore=shutil.ignore_patterns("tests", "__pycache__"))
-    words = ("fp_budget", "examples/c/pid.toml", "examples/c/budgets.toml", "--elf", "examples/c/pid.elf")
+    shutil.copytree(
+        TOP / "model",
+        checkout.folder / "model",
+        ignore=shutil.ignore_patterns("tests", "__pycache__"),
+    )
+    words = (
+        "fp_budget",
+        "examples/c/pid.toml",
+        "examples/c/budgets.toml",
+        "--elf",
+        "examples/c/pid.elf",
+    )
     for more, named in (((), "tools/fp_model"), (("--flexpret", "tools/fp_model"), "")):
         ran = subprocess.run(
             [sys.executable, f"tools/{words[0]}", *words[1:], *more], cwd=checkout.folder,
             env={**checkout.environment, "FLEXPRET": named}, capture_output=True, text=True, check=False,
         )  # fmt: skip
-        assert ran.stdout.startswith("holds    T0 a step of the controller: 352 of 400 cycles") and BY_MODEL in ran.stderr
+        assert (
+            ran.stdout.startswith("holds    T0 a step of the controller: 352 of 400 cycles")
+            and BY_MODEL in ran.stderr
+        )
 
 
-def test_an_answer_without_a_proof(checkout: Checkout, tmp_path_factory: pytest.TempPathFactory) -> None:
+def test_an_answer_without_a_proof(
+    checkout: Checkout, tmp_path_factory: pytest.TempPathFactory
+) -> None:
     folder = tmp_path_factory.mktemp("a call")
     (folder / "a.toml").write_text('version = 1\nimage = "../elsewhere/x.fpx" # there\n')
     (folder.parent / "elsewhere").mkdir(exist_ok=True)
     (folder.parent / "elsewhere/x.fpx").write_text("FPX1")
-    (folder / "said").write_text("checked: ended status=7\nflexpret: read failed\nrun=ended status=7 runners=1 proved=no\n")
+    (folder / "said").write_text(
+        "checked: ended status=7\nflexpret: read failed\nrun=ended status=7 runners=1 proved=no\n"
+    )
     words = ("check", "a.toml", "--thread", "0", "--cycles=9", "--trace", "none")
     ran = checkout.run("--unproved", *words, cwd=folder, RT_TRY=str(folder / "said"), RT_STATUS="7")
     assert ran.returncode == 7
@@ -252,17 +317,30 @@ def test_an_answer_without_a_proof(checkout: Checkout, tmp_path_factory: pytest.
     ]
     asked = checkout.log.with_suffix(".try").read_text().splitlines()
     behind = asked.index("--")
-    assert asked[behind + 1 :] == ["check", "file1", "--thread", "0", "--cycles=9", "--trace", "file2"]
+    assert asked[behind + 1 :] == [
+        "check",
+        "file1",
+        "--thread",
+        "0",
+        "--cycles=9",
+        "--trace",
+        "file2",
+    ]
     assert [it.split("=")[0] for it in asked[:behind] if "=" in it] == ["file0", "file1"]
     assert not checkout.out.exists()
 
 
-@pytest.mark.parametrize("said", ["run=none\n", "run=ended status=3 runners=1\n", "stopped: 1048576 bytes\n", ""])
+@pytest.mark.parametrize(
+    "said", ["run=none\n", "run=ended status=3 runners=1\n", "stopped: 1048576 bytes\n", ""]
+)
 def test_no_answer_without_a_proof(checkout: Checkout, said: str) -> None:
     (checkout.folder / "said").write_text(said)
     ran = checkout.run("--unproved", *SELFRUN, RT_TRY=str(checkout.folder / "said"), RT_STATUS="6")
     assert ran.returncode == NOT_BUILT
-    assert "no answer: rt try gives up after 60 seconds or 1048576 bytes of output (" in ran.stderr.splitlines()[-1]
+    assert (
+        "no answer: rt try gives up after 60 seconds or 1048576 bytes of output ("
+        in ran.stderr.splitlines()[-1]
+    )
 
 
 def test_a_wrong_argument_without_a_proof(each_script: Checkout) -> None:
@@ -280,7 +358,15 @@ def test_a_view_without_a_proof_goes_to_its_file(tmp_path: Path) -> None:
     assert (ran.returncode, ran.stdout) == (0, "")
     assert (tmp_path / "x.svg").read_text() == "a picture\n"
     asked = checkout.log.with_suffix(".try").read_text().splitlines()
-    assert asked[asked.index("--") + 1 :] == ["turns", "file0", "--from", "0", "--to=9", "--svg", "-"]
+    assert asked[asked.index("--") + 1 :] == [
+        "turns",
+        "file0",
+        "--from",
+        "0",
+        "--to=9",
+        "--svg",
+        "-",
+    ]
 
 
 @pytest.mark.parametrize(
@@ -297,7 +383,17 @@ def test_a_view_without_a_proof_goes_to_its_file(tmp_path: Path) -> None:
     ],
 )
 def test_a_plain_section_is_known_at_once(setup: str, start: str, end: str, status: int) -> None:
-    words = [sys.executable, "-S", str(TOOLS / "fp_launch"), "flexpret", "flexpret_cli", "is-plain", f"examples/{setup}.toml", start, end]
+    words = [
+        sys.executable,
+        "-S",
+        str(TOOLS / "fp_launch"),
+        "flexpret",
+        "flexpret_cli",
+        "is-plain",
+        f"examples/{setup}.toml",
+        start,
+        end,
+    ]
     ran = subprocess.run(words, cwd=TOP, capture_output=True, text=True, check=False)
     assert (ran.returncode, ran.stdout, ran.stderr) == (status, "", "")
 
@@ -305,10 +401,14 @@ def test_a_plain_section_is_known_at_once(setup: str, start: str, end: str, stat
 def drawn_words() -> list[int]:
     """The words of the examples and random ones, many of them with an opcode of the core."""
     chance = random.Random(1)
-    words = [word for image in (TOP / "examples").glob("*.fpx") for word in read_image(image).values()]
+    words = [
+        word for image in (TOP / "examples").glob("*.fpx") for word in read_image(image).values()
+    ]
     words += [chance.getrandbits(32) for _ in range(5_000)]
     words += [chance.getrandbits(25) << 7 | opcode for opcode in OPCODES for _ in range(500)]
-    return words + [funct << 12 | 0x0B | register << 15 for funct in range(8) for register in (0, 31)]
+    return words + [
+        funct << 12 | 0x0B | register << 15 for funct in range(8) for register in (0, 31)
+    ]
 
 
 def test_words_are_read_as_the_tools_read_them() -> None:
@@ -334,7 +434,9 @@ def test_each_way_out_is_told() -> None:
 
     assert told(0x00000073) == ["00000100: a trap leaves the section, and the bound ends there"]
     assert told(0x00000000) == ["00000100: no instruction is there, and the bound ends there"]
-    assert told(0x1000006F) == ["00000100: the section is left for 00000200, and the bound ends there; tools/fp_budget checks that"]
+    assert told(0x1000006F) == [
+        "00000100: the section is left for 00000200, and the bound ends there; tools/fp_budget checks that"
+    ]
     assert told(0x10000063) == told(0x1000006F)
     assert told(0x0080006F) == told(0x00000013) == []
 
@@ -342,8 +444,13 @@ def test_each_way_out_is_told() -> None:
 OPCODES = (0x03, 0x0B, 0x0F, 0x13, 0x17, 0x23, 0x33, 0x37, 0x63, 0x67, 0x6F, 0x73)
 
 
-@pytest.mark.parametrize(("complaint", "shown"), [("write failed", ""), ("read failed", "flexpret_view: read failed\r\n")])
-def test_a_view_on_a_terminal_whose_reader_stops(tmp_path: Path, complaint: str, shown: str) -> None:
+@pytest.mark.parametrize(
+    ("complaint", "shown"),
+    [("write failed", ""), ("read failed", "flexpret_view: read failed\r\n")],
+)
+def test_a_view_on_a_terminal_whose_reader_stops(
+    tmp_path: Path, complaint: str, shown: str
+) -> None:
     if not shutil.which("script"):
         pytest.skip("script isn't installed (Debian: bsdutils)")
     checkout = Checkout(tmp_path, "flexpret-view", "flexpret_view")
@@ -351,6 +458,10 @@ def test_a_view_on_a_terminal_whose_reader_stops(tmp_path: Path, complaint: str,
     call = f"{tmp_path}/flexpret-view {' '.join(TURNS)} | head -n 1; echo end"
     named = {**checkout.environment, "SEEN": "8", "COMPLAINT": f"flexpret_view: {complaint}"}
     ran = subprocess.run(
-        ["script", "-qec", call, "/dev/null"], env=named, stdin=subprocess.DEVNULL, capture_output=True, check=False
+        ["script", "-qec", call, "/dev/null"],
+        env=named,
+        stdin=subprocess.DEVNULL,
+        capture_output=True,
+        check=False,
     )
     assert ran.stdout.decode() == f"{shown}end\r\n"

@@ -25,7 +25,9 @@ UNPROVED = {"flexpret": "--model", "flexpret-view": "--unproved"}
 BY_TOOLS = {**os.environ, "PYTHONPATH": "tools"}
 
 
-def test_a_first_build_says_how_long_it_takes_and_which_crates_are_left(each_script: Checkout) -> None:
+def test_a_first_build_says_how_long_it_takes_and_which_crates_are_left(
+    each_script: Checkout,
+) -> None:
     ran = each_script.run(*each_script.words, given="in\n")
     first, *rest = ran.stderr.splitlines()
     found = re.fullmatch(
@@ -38,8 +40,13 @@ def test_a_first_build_says_how_long_it_takes_and_which_crates_are_left(each_scr
     assert found and quiet <= int(found[1]) <= quiet * (3 + os.getloadavg()[0])
     assert rest[0].startswith(f"{each_script.script}: 0 of 4 crates proved; now ")
     assert re.search(r"now .*(low|beside).*; about \d+ minutes? left$", rest[0])
-    assert rest[-1].startswith(f"{each_script.script}: 3 of 4 crates proved; now {each_script.out.parent.name}; about ")
-    assert (ran.returncode, ran.stdout) == (0, f"in\n{len(each_script.words)}:{' '.join(each_script.words)}\n")
+    assert rest[-1].startswith(
+        f"{each_script.script}: 3 of 4 crates proved; now {each_script.out.parent.name}; about "
+    )
+    assert (ran.returncode, ran.stdout) == (
+        0,
+        f"in\n{len(each_script.words)}:{' '.join(each_script.words)}\n",
+    )
 
 
 def test_crates_are_proved_behind_those_that_they_use_and_no_others(each_script: Checkout) -> None:
@@ -48,7 +55,12 @@ def test_crates_are_proved_behind_those_that_they_use_and_no_others(each_script:
     each_script.run(*each_script.words)
     lines = each_script.log.read_text().splitlines()
     assert sorted(lines[:4]) == ["done beside", "done low", "lib beside", "lib low"]
-    assert lines[4:] == ["lib middle", "done middle", f"run {each_script.out.parent.name}", f"done {each_script.out.parent.name}"]
+    assert lines[4:] == [
+        "lib middle",
+        "done middle",
+        f"run {each_script.out.parent.name}",
+        f"done {each_script.out.parent.name}",
+    ]
 
 
 def test_crates_are_proved_side_by_side(checkout: Checkout) -> None:
@@ -64,13 +76,25 @@ def test_the_longest_chain_comes_first(checkout: Checkout) -> None:
         (checkout.folder / "crates" / name / "src").mkdir(parents=True)
     command = "from fptools.launch.build import *; from pathlib import Path;"
     command += " plan = Plan(Checkout(Path('.'), 'flexpret_cli'), 1); print(max(plan.chain, key=plan.chain.get), plan.chain['c'] > plan.chain['flexpret_cli'])"
-    ran = subprocess.run([sys.executable, "-c", command], cwd=checkout.folder, env=BY_TOOLS, capture_output=True, text=True, check=True)
+    ran = subprocess.run(
+        [sys.executable, "-c", command],
+        cwd=checkout.folder,
+        env=BY_TOOLS,
+        capture_output=True,
+        text=True,
+        check=True,
+    )
     assert ran.stdout == "b True\n"
 
 
 def test_the_forecast_follows_the_load_and_proofs_that_take_longer(checkout: Checkout) -> None:
     """In seconds: at load 0 and at load 8 on 2 processors; after a crate that took three times its estimate; and while one takes longer."""
-    for name, size in (("low", 100_000), ("beside", 100_000), ("middle", 100_000), ("flexpret_cli", 100_000)):
+    for name, size in (
+        ("low", 100_000),
+        ("beside", 100_000),
+        ("middle", 100_000),
+        ("flexpret_cli", 100_000),
+    ):
         (checkout.folder / "crates" / name / "src/lib.rt").write_text(" " * size)
     command = """
 from fptools.launch import build
@@ -87,9 +111,19 @@ late.done = {it: late.weight[it] for it in ('low', 'beside', 'middle')}
 print(300 < late.left() < 700)
 shown = build.Progress('x', late, False); shown.terminal = False; shown.show()
 """
-    ran = subprocess.run([sys.executable, "-c", command], cwd=checkout.folder, env=BY_TOOLS, capture_output=True, text=True, check=True)
+    ran = subprocess.run(
+        [sys.executable, "-c", command],
+        cwd=checkout.folder,
+        env=BY_TOOLS,
+        capture_output=True,
+        text=True,
+        check=True,
+    )
     assert ran.stdout.split() == ["5.0", "True", "True"]
-    assert re.fullmatch(r"x: 3 of 4 crates proved; now flexpret_cli \(for 50 minutes\); about (8|9|10) minutes left\n", ran.stderr)
+    assert re.fullmatch(
+        r"x: 3 of 4 crates proved; now flexpret_cli \(for 50 minutes\); about (8|9|10) minutes left\n",
+        ran.stderr,
+    )
 
 
 def test_a_shorter_chain_yields_the_processors(checkout: Checkout) -> None:
@@ -99,7 +133,14 @@ def test_a_shorter_chain_yields_the_processors(checkout: Checkout) -> None:
         (checkout.folder / "crates" / name / "src/lib.rt").write_text(" " * size)
     command = "from fptools.launch import build; from pathlib import Path;"
     command += " plan = build.Plan(build.Checkout(Path('.'), 'flexpret_cli'), 2); print(plan.niceness('b'), plan.niceness('a') > 5)"
-    ran = subprocess.run([sys.executable, "-c", command], cwd=checkout.folder, env=BY_TOOLS, capture_output=True, text=True, check=True)
+    ran = subprocess.run(
+        [sys.executable, "-c", command],
+        cwd=checkout.folder,
+        env=BY_TOOLS,
+        capture_output=True,
+        text=True,
+        check=True,
+    )
     assert ran.stdout == "0 True\n"
 
 
@@ -109,7 +150,9 @@ def test_a_proof_has_the_processors_that_no_other_crate_needs(checkout: Checkout
     command += " print([plan.jobs(ready) for ready in (0, 1, 2, 3, 9)])"
     for memory, jobs in ((64, [4, 3, 2, 1, 1]), (9, [2, 2, 2, 1, 1]), (7, [1, 1, 1, 1, 1])):
         words = [sys.executable, "-c", f"memory = {memory} << 30; {command}"]
-        ran = subprocess.run(words, cwd=checkout.folder, env=BY_TOOLS, capture_output=True, text=True, check=True)
+        ran = subprocess.run(
+            words, cwd=checkout.folder, env=BY_TOOLS, capture_output=True, text=True, check=True
+        )
         assert ran.stdout == f"{jobs}\n"
 
 
@@ -120,7 +163,17 @@ def test_fp_plant_builds_its_program(checkout: Checkout) -> None:
     (checkout.folder / "examples").symlink_to(TOP / "examples")
 
     def called(**named: str) -> subprocess.CompletedProcess[str]:
-        words = ("examples/loop/motor.toml", "--thread", "0", "--every", "100", "--cycles", "1000", "--", "true")
+        words = (
+            "examples/loop/motor.toml",
+            "--thread",
+            "0",
+            "--every",
+            "100",
+            "--cycles",
+            "1000",
+            "--",
+            "true",
+        )
         environment = {**checkout.environment, "RT_PROGRAM": "#!/bin/sh\nexit 9\n", **named}
         environment.pop("LOOP_CLI", None)
         return subprocess.run(
@@ -129,11 +182,22 @@ def test_fp_plant_builds_its_program(checkout: Checkout) -> None:
         )  # fmt: skip
 
     ran = called(RT_STATUS="1", RT_SAYS="error: x")
-    assert ran.returncode == 2 and ran.stderr.splitlines()[-1] == "fp_plant: without loop_cli there is no run"
+    assert (
+        ran.returncode == 2
+        and ran.stderr.splitlines()[-1] == "fp_plant: without loop_cli there is no run"
+    )
     ran = called()
-    assert re.match(r"fp_plant: loop_cli isn't built yet: 4 crates are proved first, in about \d+ minutes?\n", ran.stderr)
-    assert re.search(r"^fp_plant: 3 of 4 crates proved; now loop_cli; about ", ran.stderr, re.MULTILINE)
-    assert ran.stderr.splitlines()[-1] == "fp_plant: loop_cli ended with status 9" and ran.returncode == 2
+    assert re.match(
+        r"fp_plant: loop_cli isn't built yet: 4 crates are proved first, in about \d+ minutes?\n",
+        ran.stderr,
+    )
+    assert re.search(
+        r"^fp_plant: 3 of 4 crates proved; now loop_cli; about ", ran.stderr, re.MULTILINE
+    )
+    assert (
+        ran.stderr.splitlines()[-1] == "fp_plant: loop_cli ended with status 9"
+        and ran.returncode == 2
+    )
     assert called().stderr == "fp_plant: loop_cli ended with status 9\n"
 
 
@@ -186,15 +250,21 @@ def test_a_source_that_went_or_came_with_an_old_date_is_built(each_script: Check
     assert each_script.builds()
 
 
-def test_a_checkout_that_moved_is_not_built_again(each_script: Checkout, tmp_path_factory: pytest.TempPathFactory) -> None:
+def test_a_checkout_that_moved_is_not_built_again(
+    each_script: Checkout, tmp_path_factory: pytest.TempPathFactory
+) -> None:
     each_script.build()
-    each_script.folder = each_script.folder.rename(tmp_path_factory.mktemp("elsewhere") / "checkout")
+    each_script.folder = each_script.folder.rename(
+        tmp_path_factory.mktemp("elsewhere") / "checkout"
+    )
     assert not each_script.builds()
 
 
 def test_a_source_that_changes_while_it_is_built_is_built_again(each_script: Checkout) -> None:
     rt = each_script.folder / "bin/rt"
-    rt.write_text(RT.replace("sleep", f"[ $1 != run ] || echo changed >{each_script.source}\nsleep"))
+    rt.write_text(
+        RT.replace("sleep", f"[ $1 != run ] || echo changed >{each_script.source}\nsleep")
+    )
     each_script.build()
     rt.write_text(RT)
     assert each_script.builds()
@@ -202,17 +272,22 @@ def test_a_source_that_changes_while_it_is_built_is_built_again(each_script: Che
 
 
 def test_a_build_that_fails(each_script: Checkout) -> None:
-    ran = each_script.run(*each_script.words, RT_STATUS="1", RT_SAYS="src/lib.rt:1:1: error: no proof")
+    ran = each_script.run(
+        *each_script.words, RT_STATUS="1", RT_SAYS="src/lib.rt:1:1: error: no proof"
+    )
     assert ran.returncode == NOT_BUILT
     (log,) = each_script.out.glob("*.log")
     assert re.fullmatch(
-        rf"{each_script.script}: (low|beside) is not proved: src/lib.rt:1:1: error: no proof; see {log}", ran.stderr.splitlines()[-1]
+        rf"{each_script.script}: (low|beside) is not proved: src/lib.rt:1:1: error: no proof; see {log}",
+        ran.stderr.splitlines()[-1],
     )
     assert "no proof" in log.read_text()
 
 
 def test_a_build_on_a_full_disk(each_script: Checkout) -> None:
-    ran = each_script.run(*each_script.words, RT_STATUS="2", RT_SAYS="rt: [Errno 28] No space left on device")
+    ran = each_script.run(
+        *each_script.words, RT_STATUS="2", RT_SAYS="rt: [Errno 28] No space left on device"
+    )
     assert ran.returncode == NOT_BUILT
     assert f"{each_script.script}: the disk is full: " in ran.stderr.splitlines()[-1]
 
@@ -226,13 +301,19 @@ def test_a_build_without_a_kit(each_script: Checkout) -> None:
 
 def test_a_build_with_another_kit_that_fails_names_it(each_script: Checkout) -> None:
     ran = each_script.run(*each_script.words, RT_STATUS="1", RT_KIT="rattle-kit-12 logic 0")
-    assert "(the kit is rattle-kit-12 logic 0; README.md names one with logic dac8208d650f15bf)" in ran.stderr
+    assert (
+        "(the kit is rattle-kit-12 logic 0; README.md names one with logic dac8208d650f15bf)"
+        in ran.stderr
+    )
 
 
 def test_a_folder_that_cannot_be_made(each_script: Checkout) -> None:
     each_script.out.write_text("")
     ran = each_script.run(*each_script.words)
-    assert (ran.returncode, ran.stderr) == (NOT_BUILT, f"{each_script.script}: {each_script.out} can't be made: File exists\n")
+    assert (ran.returncode, ran.stderr) == (
+        NOT_BUILT,
+        f"{each_script.script}: {each_script.out} can't be made: File exists\n",
+    )
 
 
 def test_without_what_the_scripts_share(each_script: Checkout) -> None:
@@ -247,7 +328,10 @@ def test_a_second_call_waits_for_the_build_of_the_first(each_script: Checkout) -
     each_script.wait_for("lib low")
     second = each_script.start()
     assert second.stderr
-    assert second.stderr.readline() == f"{each_script.script}: another call builds here: waiting for it\n"
+    assert (
+        second.stderr.readline()
+        == f"{each_script.script}: another call builds here: waiting for it\n"
+    )
     go.write_text("")
     _, said = second.communicate(timeout=60)
     assert (second.returncode, said, first.wait(60)) == (0, "", 0)
@@ -260,7 +344,10 @@ def test_a_build_waits_for_an_rt_that_works_in_the_checkout(each_script: Checkou
     script = each_script.start()
     assert script.stderr
     assert "isn't built yet" in script.stderr.readline()
-    assert script.stderr.readline() == f"{each_script.script}: an rt works in this checkout: waiting for it\n"
+    assert (
+        script.stderr.readline()
+        == f"{each_script.script}: an rt works in this checkout: waiting for it\n"
+    )
     assert not each_script.log.exists()
     os.close(held)
     script.communicate(timeout=60)
@@ -271,14 +358,25 @@ def test_each_crate_is_proved_in_a_folder_of_its_own(each_script: Checkout) -> N
     """`rt` locks the folders of all crates below, so two proofs in one checkout would wait for each other."""
     noted = each_script.folder / "noted"
     rt = each_script.folder / "bin/rt"
-    rt.write_text(f"""#!/bin/sh
+    rt.write_text(
+        f"""#!/bin/sh
 [ "$1" = lib ] && {{ pwd -P; cat ../../crates.txt; ls .. ; ls ../low/out out; }} >{noted}-${{PWD##*/}} 2>/dev/null
 [ "$1" = lib ] && {{ mkdir -p out/rlib out/incremental; echo "${{PWD##*/}}" >out/rlib/stamp; echo >out/incremental/work; }}
-{RT.removeprefix("#!/bin/sh")}""")
+{RT.removeprefix("#!/bin/sh")}"""
+    )
     each_script.build()
     folder, *rest = Path(f"{noted}-middle").read_text().splitlines()
     assert folder == f"{each_script.out}/trees/middle/crates/middle"
-    assert rest == ["beside:", "low:", "middle: low beside arrayvec", "beside", "low", "middle", "../low/out:", "rlib"]
+    assert rest == [
+        "beside:",
+        "low:",
+        "middle: low beside arrayvec",
+        "beside",
+        "low",
+        "middle",
+        "../low/out:",
+        "rlib",
+    ]
     assert not list((each_script.out / "trees").iterdir())
     crates = each_script.folder / "crates"
     for crate in ("low", "beside", "middle"):
@@ -290,7 +388,9 @@ def test_a_build_that_is_broken_off_goes_on(each_script: Checkout) -> None:
     script = each_script.start(RT_SECONDS="30")
     each_script.wait_for("lib low")
     (builder,) = (
-        int(it.name) for it in Path("/proc").glob("[0-9]*") if f"{each_script.folder}/tools/fp_launch" in command_of(it) and " build" in command_of(it)
+        int(it.name)
+        for it in Path("/proc").glob("[0-9]*")
+        if f"{each_script.folder}/tools/fp_launch" in command_of(it) and " build" in command_of(it)
     )
     os.kill(builder, signal.SIGTERM)
     _, said = script.communicate(timeout=20)
@@ -353,7 +453,9 @@ def leave_by_run(checkout: Checkout) -> None:
 
 
 @pytest.mark.parametrize("leave", [leave_by_ci, leave_by_run])
-def test_the_program_that_rt_left_answers_the_first_call_in_a_second(each_script: Checkout, leave: object) -> None:
+def test_the_program_that_rt_left_answers_the_first_call_in_a_second(
+    each_script: Checkout, leave: object
+) -> None:
     time.sleep(0.01)
     assert callable(leave)
     leave(each_script)
@@ -365,17 +467,23 @@ def test_the_program_that_rt_left_answers_the_first_call_in_a_second(each_script
 
 
 @pytest.mark.parametrize("leave", [leave_by_ci, leave_by_run])
-def test_the_kit_of_a_program_that_rt_left_is_not_recorded(each_script: Checkout, leave: object) -> None:
+def test_the_kit_of_a_program_that_rt_left_is_not_recorded(
+    each_script: Checkout, leave: object
+) -> None:
     time.sleep(0.01)
     assert callable(leave)
     leave(each_script)
     here = "(found beside rattle-kit-13f logic dac8208d650f15bf)"
     first = each_script.run("--version").stdout.splitlines()[0]
-    assert first.startswith(f"{each_script.script}: commit unknown, a kit that no record names {here}, proved: ")
+    assert first.startswith(
+        f"{each_script.script}: commit unknown, a kit that no record names {here}, proved: "
+    )
 
 
 @pytest.mark.parametrize("leave", [leave_by_ci, leave_by_run])
-def test_a_source_that_changed_since_rt_left_the_program_is_built(each_script: Checkout, leave: object) -> None:
+def test_a_source_that_changed_since_rt_left_the_program_is_built(
+    each_script: Checkout, leave: object
+) -> None:
     assert callable(leave)
     leave(each_script)
     time.sleep(0.01)

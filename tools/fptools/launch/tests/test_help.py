@@ -16,7 +16,9 @@ from fptools.launch.tests.scripts import elf
 
 def help_forms() -> list[str]:
     """The commands that --help shows, with their arguments and without the script's options."""
-    text = subprocess.run([TOP / "flexpret", "--help"], capture_output=True, text=True, check=True).stdout
+    text = subprocess.run(
+        [TOP / "flexpret", "--help"], capture_output=True, text=True, check=True
+    ).stdout
     forms = re.findall(r"^  (flexpret [a-z]+ [A-Z][A-Z]*(?: --[a-z]+ [A-Z]+)*)", text, re.M)
     return [form for form in forms if form.split()[1] not in ("disasm",)]
 
@@ -25,7 +27,9 @@ def test_the_forms_of_help_are_those_of_the_page() -> None:
     page = TOP / "docs/COMMANDS.md" if (TOP / "docs/COMMANDS.md").exists() else TOP / "README.md"
     table = re.findall(r"^\| (?:`(\w+) |\[`(\w+)`\]\(\S+\) `)([A-Z][^`]*)`", page.read_text(), re.M)
     forms = [f"flexpret {first or second} {rest}" for first, second, rest in table]
-    assert help_forms() == [re.sub(r"(?<= )[a-z](?= |$)", lambda it: str(it[0]).upper(), form) for form in forms]
+    assert help_forms() == [
+        re.sub(r"(?<= )[a-z](?= |$)", lambda it: str(it[0]).upper(), form) for form in forms
+    ]
 
 
 def test_the_forms_are_those_of_the_man_page_and_the_completion() -> None:
@@ -45,10 +49,14 @@ SCRIPTS_OPTIONS = ("-o", "--listing", "--map", "--elf", "--quiet")
 """The options behind a command that the script takes, or a tool."""
 
 
-@pytest.mark.parametrize("option", ["--quiet", "--model", "--unproved", "--use", "--version", "--help"])
+@pytest.mark.parametrize(
+    "option", ["--quiet", "--model", "--unproved", "--use", "--version", "--help"]
+)
 def test_the_scripts_options_are_in_help_man_page_and_completion(option: str) -> None:
     for name in ("flexpret", "flexpret-view") if option != "--model" else ("flexpret",):
-        text = subprocess.run([TOP / name, "--help"], capture_output=True, text=True, check=True).stdout
+        text = subprocess.run(
+            [TOP / name, "--help"], capture_output=True, text=True, check=True
+        ).stdout
         assert option in text
         assert option.replace("-", "\\-") in (TOP / f"tools/{name}.1").read_text()
         assert option in offered(name, "--")
@@ -67,7 +75,9 @@ def test_a_man_page_is_shown_without_warnings(name: str) -> None:
 
 
 def test_the_form_of_the_view_is_that_of_its_man_page_and_completion() -> None:
-    form = re.search(r"^    \./(flexpret-view turns SETUP .*)$", (TOP / "docs/VIEW.md").read_text(), re.M)
+    form = re.search(
+        r"^    \./(flexpret-view turns SETUP .*)$", (TOP / "docs/VIEW.md").read_text(), re.M
+    )
     assert form
     page = (TOP / "tools/flexpret-view.1").read_text()
     synopsis = page[page.index(".SH SYNOPSIS\n") : page.index(".SH DESCRIPTION")].split("\n", 1)[1]
@@ -81,30 +91,49 @@ def install(*words: object, **named: str) -> subprocess.CompletedProcess[str]:
     )  # fmt: skip
 
 
-def test_install_puts_program_page_and_completion(tmp_path: Path, monkeypatch: pytest.MonkeyPatch) -> None:
+def test_install_puts_program_page_and_completion(
+    tmp_path: Path, monkeypatch: pytest.MonkeyPatch
+) -> None:
     for name in ("FLEXPRET", "FLEXPRET_VIEW"):
         monkeypatch.delenv(name, raising=False)
     prefix, program = tmp_path / "prefix", elf(tmp_path / "program")
-    for view, names in (("/none", ["flexpret"]), (elf(tmp_path / "view"), ["flexpret", "flexpret-view"])):
+    for view, names in (
+        ("/none", ["flexpret"]),
+        (elf(tmp_path / "view"), ["flexpret", "flexpret-view"]),
+    ):
         assert install(prefix, FLEXPRET=program, FLEXPRET_VIEW=view).returncode == 0
         assert sorted(it.name for it in prefix.glob("bin/*")) == names
     for name in names:
-        ran = subprocess.run([prefix / "bin" / name, "installed"], capture_output=True, text=True, check=True)
+        ran = subprocess.run(
+            [prefix / "bin" / name, "installed"], capture_output=True, text=True, check=True
+        )
         assert (ran.stdout, ran.stderr) == ("installed\n", "")
-        shown = subprocess.run([prefix / "bin" / name, "--help"], capture_output=True, text=True, check=True)
+        shown = subprocess.run(
+            [prefix / "bin" / name, "--help"], capture_output=True, text=True, check=True
+        )
         assert shown.stdout.startswith(f"usage: {name} ")
-        version = subprocess.run([prefix / "bin" / name, "--version"], capture_output=True, text=True, check=True)
+        version = subprocess.run(
+            [prefix / "bin" / name, "--version"], capture_output=True, text=True, check=True
+        )
         assert "no record says from which sources it was built" in version.stdout
-        assert (prefix / f"share/man/man1/{name}.1").read_text() == (TOP / f"tools/{name}.1").read_text()
+        assert (prefix / f"share/man/man1/{name}.1").read_text() == (
+            TOP / f"tools/{name}.1"
+        ).read_text()
         assert (prefix / "share/bash-completion/completions" / name).is_file()
     assert install().returncode == 2
 
 
 def test_installed_tools_find_the_model(tmp_path: Path) -> None:
-    assert install(tmp_path, FLEXPRET=elf(tmp_path / "program"), FLEXPRET_VIEW="/none").returncode == 0
+    assert (
+        install(tmp_path, FLEXPRET=elf(tmp_path / "program"), FLEXPRET_VIEW="/none").returncode == 0
+    )
     image = TOP / "examples/sum.fpx"
-    shown = subprocess.run([tmp_path / "bin/flexpret", "disasm", image], capture_output=True, text=True, check=False)
-    own = subprocess.run([sys.executable, TOOLS / "fp_disasm", image], capture_output=True, text=True, check=True)
+    shown = subprocess.run(
+        [tmp_path / "bin/flexpret", "disasm", image], capture_output=True, text=True, check=False
+    )
+    own = subprocess.run(
+        [sys.executable, TOOLS / "fp_disasm", image], capture_output=True, text=True, check=True
+    )
     assert (shown.returncode, shown.stdout, shown.stderr) == (0, own.stdout, "")
 
 
@@ -116,9 +145,7 @@ def test_install_puts_no_script(tmp_path: Path) -> None:
     ):
         ran = install(prefix, **named)
         script = list(named.values())[-1]
-        text = (
-            f"install.sh: {script} is no ELF executable: name the program itself, no script that calls it\n"
-        )
+        text = f"install.sh: {script} is no ELF executable: name the program itself, no script that calls it\n"
         assert (ran.returncode, ran.stderr) == (1, text)
     assert not prefix.exists()
 
@@ -135,7 +162,14 @@ def offered(*words: str) -> list[str]:
 
 def test_completion_offers_commands_options_and_values() -> None:
     assert offered("flexpret", "p") == ["phases"]
-    assert offered("flexpret", "bound", "--") == ["--thread", "--from", "--to", "--elf", "--map", "--quiet"]
+    assert offered("flexpret", "bound", "--") == [
+        "--thread",
+        "--from",
+        "--to",
+        "--elf",
+        "--map",
+        "--quiet",
+    ]
     assert offered("flexpret", "run", "x.toml", "--thread", "7") == ["7"]
     assert "README.md" in offered("flexpret", "asm", "READ")
 
@@ -150,7 +184,9 @@ def test_completion_behind_an_equals_sign() -> None:
 
 def test_completion_of_the_view() -> None:
     assert offered("flexpret-view", "") == ["turns", "show"]
-    shown = subprocess.run([TOP / "tools/fp_view", "--help"], capture_output=True, text=True, check=True).stdout
+    shown = subprocess.run(
+        [TOP / "tools/fp_view", "--help"], capture_output=True, text=True, check=True
+    ).stdout
     options = set(re.findall(r"--[a-z]+", shown.partition("options:")[2])) - {"--help"}
     assert set(offered("flexpret-view", "show", "--")) == options
     assert offered("flexpret-view", "show", "x.toml", "--around", "READ") == []
@@ -161,7 +197,9 @@ def test_completion_of_the_view() -> None:
 
 @pytest.mark.parametrize("name", ["fp_budget", "fp_report"])
 def test_completion_of_a_tool(name: str) -> None:
-    shown = subprocess.run([TOOLS / name, "--help"], capture_output=True, text=True, check=True).stdout
+    shown = subprocess.run(
+        [TOOLS / name, "--help"], capture_output=True, text=True, check=True
+    ).stdout
     options = set(re.findall(r"^  (?:-h, )?(--?[a-z-]+)", shown.partition("\noptions:")[2], re.M))
     assert set(offered(name, "-")) == options
     assert offered(name, "--thread", "=", "7") == ["7"]

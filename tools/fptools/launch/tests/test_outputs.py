@@ -17,12 +17,25 @@ from fptools.launch.tests.scripts import Checkout
 pytest_plugins = ["fptools.launch.tests.fixtures"]
 
 
-def test_a_link_to_the_script_from_elsewhere(each_script: Checkout, tmp_path_factory: pytest.TempPathFactory) -> None:
+def test_a_link_to_the_script_from_elsewhere(
+    each_script: Checkout, tmp_path_factory: pytest.TempPathFactory
+) -> None:
     each_script.build()
     link = tmp_path_factory.mktemp("else where") / "-fp"
     link.symlink_to(each_script.folder / each_script.script)
-    ran = subprocess.run([link, *each_script.words], env=each_script.environment, input="", capture_output=True, text=True, check=False)
-    assert (ran.returncode, ran.stdout, ran.stderr) == (0, f"{len(each_script.words)}:{' '.join(each_script.words)}\n", "")
+    ran = subprocess.run(
+        [link, *each_script.words],
+        env=each_script.environment,
+        input="",
+        capture_output=True,
+        text=True,
+        check=False,
+    )
+    assert (ran.returncode, ran.stdout, ran.stderr) == (
+        0,
+        f"{len(each_script.words)}:{' '.join(each_script.words)}\n",
+        "",
+    )
 
 
 @pytest.mark.parametrize("shell", [["sh"], ["bash"], ["bash", "--posix"]])
@@ -32,7 +45,11 @@ def test_the_script_by_another_shell(each_script: Checkout, shell: list[str]) ->
         [*shell, f"./{each_script.script}", *each_script.words], cwd=each_script.folder, env=each_script.environment, input="", capture_output=True,
         text=True, check=False,
     )  # fmt: skip
-    assert (ran.returncode, ran.stdout, ran.stderr) == (0, f"{len(each_script.words)}:{' '.join(each_script.words)}\n", "")
+    assert (ran.returncode, ran.stdout, ran.stderr) == (
+        0,
+        f"{len(each_script.words)}:{' '.join(each_script.words)}\n",
+        "",
+    )
 
 
 @pytest.mark.parametrize("status", [0, 1, 3, 6, 9, 10])
@@ -56,9 +73,16 @@ def test_standard_input_and_a_closed_output_are_the_programs(each_script: Checko
 def test_a_reader_that_stops_ends_it_without_a_word(each_script: Checkout) -> None:
     each_script.build()
     named = {"SEEN": "8", "COMPLAINT": f"{each_script.script.replace('-', '_')}: write failed"}
-    call = f"./{each_script.script} {' '.join(each_script.words)} | head -n 1; echo ${{PIPESTATUS[0]}}"
+    call = (
+        f"./{each_script.script} {' '.join(each_script.words)} | head -n 1; echo ${{PIPESTATUS[0]}}"
+    )
     ran = subprocess.run(
-        ["bash", "-c", call], cwd=each_script.folder, env={**each_script.environment, **named}, capture_output=True, text=True, check=False
+        ["bash", "-c", call],
+        cwd=each_script.folder,
+        env={**each_script.environment, **named},
+        capture_output=True,
+        text=True,
+        check=False,
     )
     assert (ran.stdout, ran.stderr) == ("8\n", "")
     with open("/dev/full", "w") as full:
@@ -101,14 +125,22 @@ def test_a_call_costs_at_most_40_milliseconds_of_processor_time(each_script: Che
     def spent(program: Path) -> float:
         words = [str(program), *each_script.words]
         return processor_time(
-            lambda: subprocess.run(words, env=each_script.environment, stdin=subprocess.DEVNULL, stdout=subprocess.DEVNULL, check=True)
+            lambda: subprocess.run(
+                words,
+                env=each_script.environment,
+                stdin=subprocess.DEVNULL,
+                stdout=subprocess.DEVNULL,
+                check=True,
+            )
         )
 
     alone = spent(each_script.out / each_script.out.parent.name)
     assert spent(each_script.folder / each_script.script) - alone < 0.04
 
 
-def test_a_call_of_bound_costs_at_most_100_milliseconds_of_processor_time(checkout: Checkout) -> None:
+def test_a_call_of_bound_costs_at_most_100_milliseconds_of_processor_time(
+    checkout: Checkout,
+) -> None:
     checkout.build()
     words = ("bound", "examples/sum.toml", "--thread", "0", "--from", "0x10", "--to", "0x3c")
     named = {**checkout.environment, "SEEN": "0", "LINE": "bound 184"}
@@ -121,7 +153,9 @@ def test_a_call_of_bound_costs_at_most_100_milliseconds_of_processor_time(checko
     assert processor_time(lambda: call(checkout.folder / "flexpret")) - alone < 0.1
 
 
-def test_the_file_of_an_option_is_replaced_only_by_an_answer(checkout: Checkout, tmp_path: Path) -> None:
+def test_the_file_of_an_option_is_replaced_only_by_an_answer(
+    checkout: Checkout, tmp_path: Path
+) -> None:
     checkout.build()
     for name in ("x.fpx", "a b.fpx", "-o"):
         ran = checkout.run("asm", "x.s", "-o", name)
@@ -140,7 +174,9 @@ def umask() -> int:
     return now
 
 
-def test_an_output_may_be_a_link_a_device_or_standard_output(checkout: Checkout, tmp_path: Path) -> None:
+def test_an_output_may_be_a_link_a_device_or_standard_output(
+    checkout: Checkout, tmp_path: Path
+) -> None:
     checkout.build()
     (tmp_path / "real").mkdir()
     (tmp_path / "link").symlink_to("real/x.fpx")
@@ -175,7 +211,9 @@ def test_a_pipe_that_is_opened_after_a_refusal_ends(checkout: Checkout, tmp_path
     os.mkfifo(tmp_path / "pipe")
     words = ["timeout", "20", str(tmp_path / "flexpret"), "--quiet", "asm", "x.s", "-o", "pipe"]
     named = {**checkout.environment, "SEEN": "5", "LINE": "refused it"}
-    with subprocess.Popen(words, cwd=tmp_path, env=named, stdin=subprocess.DEVNULL, stderr=subprocess.PIPE, text=True) as script:
+    with subprocess.Popen(
+        words, cwd=tmp_path, env=named, stdin=subprocess.DEVNULL, stderr=subprocess.PIPE, text=True
+    ) as script:
         assert script.stderr
         assert script.stderr.readline() == "refused it\n"
         time.sleep(0.2)
@@ -184,7 +222,9 @@ def test_a_pipe_that_is_opened_after_a_refusal_ends(checkout: Checkout, tmp_path
         assert script.wait() == 5
 
 
-def test_a_listing_is_compared_with_the_image_wherever_that_is_written(checkout: Checkout, tmp_path: Path) -> None:
+def test_a_listing_is_compared_with_the_image_wherever_that_is_written(
+    checkout: Checkout, tmp_path: Path
+) -> None:
     image = "FPX1\0\0\0\0"
     (tmp_path / "image").write_text(image)
     program = tmp_path / "program"
@@ -196,7 +236,19 @@ def test_a_listing_is_compared_with_the_image_wherever_that_is_written(checkout:
 
     def call(name: str) -> str:
         """Standard output of a call that also writes a listing and a map."""
-        ran = checkout.run("--quiet", "--use", str(program), "asm", "x.s", "-o", name, "--listing", "l", "--map", "m")
+        ran = checkout.run(
+            "--quiet",
+            "--use",
+            str(program),
+            "asm",
+            "x.s",
+            "-o",
+            name,
+            "--listing",
+            "l",
+            "--map",
+            "m",
+        )
         assert (ran.returncode, ran.stderr) == (0, "")
         assert "a:" in (tmp_path / "l").read_text()
         assert (tmp_path / "m").read_text().endswith("\n00000000 1 a\n")
@@ -207,21 +259,37 @@ def test_a_listing_is_compared_with_the_image_wherever_that_is_written(checkout:
     with read(tmp_path / "pipe") as reader:
         assert call("pipe") == ""
         assert reader.communicate()[0] == image
-    assert [call("-"), call("/dev/stdout"), call("/dev/null"), call("x.fpx"), call("-x.fpx")] == [image, image, "", "", ""]
+    assert [call("-"), call("/dev/stdout"), call("/dev/null"), call("x.fpx"), call("-x.fpx")] == [
+        image,
+        image,
+        "",
+        "",
+        "",
+    ]
     assert ((tmp_path / "x.fpx").read_text(), (tmp_path / "-x.fpx").read_text()) == (image, image)
 
 
 @pytest.mark.parametrize("name", ["-", "/dev/stdout"])
-def test_an_output_that_is_standard_output_keeps_what_is_there(checkout: Checkout, tmp_path: Path, name: str) -> None:
+def test_an_output_that_is_standard_output_keeps_what_is_there(
+    checkout: Checkout, tmp_path: Path, name: str
+) -> None:
     checkout.build()
     (tmp_path / "-").mkdir()
     call = f"{{ echo before; ./flexpret asm x.s -o {name}; echo $?; }} >both"
-    subprocess.run(["bash", "-c", call], cwd=tmp_path, env=checkout.environment, stdin=subprocess.DEVNULL, check=False)
+    subprocess.run(
+        ["bash", "-c", call],
+        cwd=tmp_path,
+        env=checkout.environment,
+        stdin=subprocess.DEVNULL,
+        check=False,
+    )
     assert (tmp_path / "both").read_text() == "before\n2:asm x.s\n0\n"
 
 
 @pytest.mark.parametrize("before", ["", "trap '' PIPE; "])
-def test_a_reader_of_an_output_that_stops_ends_it_without_a_word(checkout: Checkout, before: str) -> None:
+def test_a_reader_of_an_output_that_stops_ends_it_without_a_word(
+    checkout: Checkout, before: str
+) -> None:
     checkout.build()
     call = f"{before}{{ sleep 0.2; ./flexpret asm x.s -o -; }} | true; echo ${{PIPESTATUS[0]}}"
     ran = subprocess.run(
@@ -242,10 +310,16 @@ def test_a_reader_of_an_output_that_stops_ends_it_without_a_word(checkout: Check
 def test_an_output_that_cannot_be_written(checkout: Checkout, name: str, why: str) -> None:
     checkout.build()
     ran = checkout.run("asm", "x.s", "-o", name)
-    assert (ran.returncode, ran.stdout, ran.stderr) == (NOT_BUILT, "", f"flexpret: -o {name}: {why}\n")
+    assert (ran.returncode, ran.stdout, ran.stderr) == (
+        NOT_BUILT,
+        "",
+        f"flexpret: -o {name}: {why}\n",
+    )
 
 
-def test_the_files_follow_a_read_that_failed(checkout: Checkout, tmp_path_factory: pytest.TempPathFactory) -> None:
+def test_the_files_follow_a_read_that_failed(
+    checkout: Checkout, tmp_path_factory: pytest.TempPathFactory
+) -> None:
     checkout.build()
     folder = tmp_path_factory.mktemp("call")
     (folder / "own").mkdir()
@@ -257,7 +331,10 @@ def test_the_files_follow_a_read_that_failed(checkout: Checkout, tmp_path_factor
         assert (ran.returncode, ran.stdout) == (7, "")
         first, *rest = ran.stderr.splitlines()
         assert first == "flexpret: read failed"
-        return [line.removeprefix("flexpret: ").replace(f" (looked for from {folder})", "") for line in rest]
+        return [
+            line.removeprefix("flexpret: ").replace(f" (looked for from {folder})", "")
+            for line in rest
+        ]
 
     assert told("asm", "x.s") == ["x.s: the source isn't there"]
     assert told("asm", "no/x y.s") == ["no/x y.s: the source isn't there: there is no folder no"]

@@ -13,11 +13,15 @@ from fptools.launch.tests.scripts import Checkout
 
 pytest_plugins = ["fptools.launch.tests.fixtures"]
 
-NO_OPTION_OF_VIEW = "no such option before the command; these are --quiet, --unproved, --use, --version and --help"
+NO_OPTION_OF_VIEW = (
+    "no such option before the command; these are --quiet, --unproved, --use, --version and --help"
+)
 NO_OPTION = NO_OPTION_OF_VIEW.replace("--quiet,", "--quiet, --model,")
 
 
-@pytest.mark.parametrize("words", [("--help",), ("-h",), ("help",), ("--quiet", "--help"), ("run", "--help")])
+@pytest.mark.parametrize(
+    "words", [("--help",), ("-h",), ("help",), ("--quiet", "--help"), ("run", "--help")]
+)
 def test_help_waits_for_no_build(each_script: Checkout, words: tuple[str, ...]) -> None:
     ran = each_script.run(*words)
     assert (ran.returncode, ran.stderr) == (0, "")
@@ -30,7 +34,10 @@ def test_help_waits_for_no_build(each_script: Checkout, words: tuple[str, ...]) 
     [
         ((), "no command is named; --help shows them"),
         (("runn",), "runn: no such command; is run meant?"),
-        (("x",), "x: no such command; the commands are run, dump, phases, solo, check, bound, calls, asm, elf, selfrun, disasm"),
+        (
+            ("x",),
+            "x: no such command; the commands are run, dump, phases, solo, check, bound, calls, asm, elf, selfrun, disasm",
+        ),
         (("--nonsense",), f"--nonsense: {NO_OPTION}"),
         (("--quite", "run"), f"--quite: {NO_OPTION}; is --quiet meant?"),
         (("--use", ""), "--use: FILE is missing, the program to be used"),
@@ -56,16 +63,34 @@ def test_help_waits_for_no_build(each_script: Checkout, words: tuple[str, ...]) 
             "--cycles 1000001: check compares at most 1000000 cycles",
         ),
         (("run", "a", "--thread", "1"), "run needs --cycles N"),
-        (("calls", "--thread", "1"), "calls needs SETUP and --from A and --to B and --routines FILE"),
-        (("run", "a", "b", "--thread", "1", "--cycles", "1"), "b: run takes one SETUP, and a is that"),
-        (("run", "a", "--thread", "1", "--thread", "1", "--cycles", "1"), "--thread is given 2 times"),
+        (
+            ("calls", "--thread", "1"),
+            "calls needs SETUP and --from A and --to B and --routines FILE",
+        ),
+        (
+            ("run", "a", "b", "--thread", "1", "--cycles", "1"),
+            "b: run takes one SETUP, and a is that",
+        ),
+        (
+            ("run", "a", "--thread", "1", "--thread", "1", "--cycles", "1"),
+            "--thread is given 2 times",
+        ),
         (("run", "a", "--thread"), "--thread: I is missing"),
-        (("run", "a", "--thraed", "1"), "--thraed: run has the options --thread and --cycles; is --thread meant?"),
+        (
+            ("run", "a", "--thraed", "1"),
+            "--thraed: run has the options --thread and --cycles; is --thread meant?",
+        ),
         (("asm", "x", "--output", "y"), "--output: asm has the options -o, --listing and --map"),
         (("elf", "x", "--output", "y"), "--output: elf has the option -o"),
         (("selfrun", "1", "--x"), "--x: selfrun has no options"),
-        (("asm", "-x.s"), "-x.s: asm has the options -o, --listing and --map; a file whose name begins with - is written ./-x.s"),
-        (("check", "a", "--thread", "1", "--cycles", "1", "--trace", "-t"), "--trace -t: a value doesn't begin with - (write ./-t)"),
+        (
+            ("asm", "-x.s"),
+            "-x.s: asm has the options -o, --listing and --map; a file whose name begins with - is written ./-x.s",
+        ),
+        (
+            ("check", "a", "--thread", "1", "--cycles", "1", "--trace", "-t"),
+            "--trace -t: a value doesn't begin with - (write ./-t)",
+        ),
         (("selfrun", "4294967296"), "selfrun 4294967296: NUMBER is decimal, at most 4294967295"),
         (("asm", ""), "an argument is empty"),
         (("asm", "a", "-o"), "-o: its value is missing"),
@@ -75,7 +100,9 @@ def test_help_waits_for_no_build(each_script: Checkout, words: tuple[str, ...]) 
         (("bound", "a", "--elf", "b", "--elf="), "--elf: its value is missing"),
     ],
 )
-def test_the_wrong_argument_is_named_before_and_after_the_build(checkout: Checkout, words: tuple[str, ...], said: str) -> None:
+def test_the_wrong_argument_is_named_before_and_after_the_build(
+    checkout: Checkout, words: tuple[str, ...], said: str
+) -> None:
     ran = checkout.run(*words)
     assert (ran.returncode, ran.stdout, ran.stderr) == (2, "", f"flexpret: {said}\n")
     assert not checkout.log.exists()
@@ -85,7 +112,12 @@ def test_the_wrong_argument_is_named_before_and_after_the_build(checkout: Checko
 
 
 def test_an_argument_that_is_no_text_is_named(checkout: Checkout) -> None:
-    ran = subprocess.run([bytes(checkout.folder / "flexpret"), b"asm", b"\xff"], env=checkout.environment, capture_output=True, check=False)
+    ran = subprocess.run(
+        [bytes(checkout.folder / "flexpret"), b"asm", b"\xff"],
+        env=checkout.environment,
+        capture_output=True,
+        check=False,
+    )
     assert (ran.returncode, ran.stderr) == (2, b"flexpret: '\\udcff': an argument isn't UTF-8\n")
 
 
@@ -99,7 +131,11 @@ def fault_of(reader: Callable[[list[str]], object], words: list[str]) -> str | N
 
 
 def test_what_is_wrong_by_the_script_is_wrong_by_the_rows_of_the_gate() -> None:
-    rows = [line.split("\t", 1) for line in (TOP / "crates/unit_rows/data/words.txt").read_text().splitlines() if "\t" in line]
+    rows = [
+        line.split("\t", 1)
+        for line in (TOP / "crates/unit_rows/data/words.txt").read_text().splitlines()
+        if "\t" in line
+    ]
     assert len(rows) > 100
     for answer, call in rows:
         words = call[1:].split(" ") if call.startswith(":") else []
@@ -116,9 +152,15 @@ def test_what_is_wrong_by_the_script_is_wrong_by_the_rows_of_the_gate() -> None:
         ("turns --from 1 --to 2", "turns needs SETUP"),
         ("turns a --from 1 --to x", "--to x: a cycle is decimal, at most 3999999997"),
         ("turns a --from 5 --to 5", "--from 5 --to 5: --from is below --to"),
-        ("turns a --from 0 --to 2001 --svg x", "--from 0 --to 2001: a picture has at most 2000 cycles"),
+        (
+            "turns a --from 0 --to 2001 --svg x",
+            "--from 0 --to 2001: a picture has at most 2000 cycles",
+        ),
         ("turns a --from 0 --to 2 --svg x --vcd y", "--vcd and --svg: one form at a time"),
-        ("turns a --from 0 --to 2 --sgv x", "--sgv: the options are --from, --to, --konata, --vcd, --svg, --progress"),
+        (
+            "turns a --from 0 --to 2 --sgv x",
+            "--sgv: the options are --from, --to, --konata, --vcd, --svg, --progress",
+        ),
         ("turns a b --from 0 --to 2", "b: turns takes one SETUP, and a is that"),
         ("turns a --from 0 --from 1 --to 2", "--from is given twice"),
         ("turns a --from 0 --to 2 --progress x", "--progress x: it is before or all"),
@@ -132,32 +174,54 @@ def test_the_wrong_argument_of_the_view_is_named_before_a_build(words: str, said
 def test_quiet_turns_lines_off(each_script: Checkout) -> None:
     ran = each_script.run("--quiet", *each_script.words)
     assert (ran.returncode, ran.stderr) == (0, "")
-    assert each_script.run(*each_script.words, "--quiet").stdout == f"{len(each_script.words)}:{' '.join(each_script.words)}\n"
+    assert (
+        each_script.run(*each_script.words, "--quiet").stdout
+        == f"{len(each_script.words)}:{' '.join(each_script.words)}\n"
+    )
 
 
 def test_the_version_says_commit_kit_and_whether_it_is_proved(each_script: Checkout) -> None:
     kit = "rattle-kit-13f logic dac8208d650f15bf"
-    assert each_script.run("--version").stdout.splitlines() == [f"{each_script.script}: not built", f"kit here: {kit}"]
+    assert each_script.run("--version").stdout.splitlines() == [
+        f"{each_script.script}: not built",
+        f"kit here: {kit}",
+    ]
     each_script.build()
     program = each_script.out / each_script.out.parent.name
-    assert each_script.run("--version").stdout.splitlines()[0] == f"{each_script.script}: commit unknown, {kit}, proved: {program}"
+    assert (
+        each_script.run("--version").stdout.splitlines()[0]
+        == f"{each_script.script}: commit unknown, {kit}, proved: {program}"
+    )
     each_script.source.write_text("changed")
     assert "no record says from which sources it was built" in each_script.run("--version").stdout
     assert not each_script.log.exists()
 
 
-def test_a_program_that_was_built_elsewhere(each_script: Checkout, tmp_path_factory: pytest.TempPathFactory) -> None:
+def test_a_program_that_was_built_elsewhere(
+    each_script: Checkout, tmp_path_factory: pytest.TempPathFactory
+) -> None:
     other = tmp_path_factory.mktemp("else where") / "program"
     other.write_text('#!/bin/sh\necho other "$@"\n')
     other.chmod(0o755)
-    unknown = f"{each_script.script}: using {other}: no record says from which sources it was built\n"
+    unknown = (
+        f"{each_script.script}: using {other}: no record says from which sources it was built\n"
+    )
     ran = each_script.run("--use", str(other), *each_script.words)
-    assert (ran.returncode, ran.stdout, ran.stderr) == (0, f"other {' '.join(each_script.words)}\n", unknown)
-    other.with_name("program.sources").write_text("kit rattle-kit-9\ncommit 0123\nprogram 0 0 0 x\n")
+    assert (ran.returncode, ran.stdout, ran.stderr) == (
+        0,
+        f"other {' '.join(each_script.words)}\n",
+        unknown,
+    )
+    other.with_name("program.sources").write_text(
+        "kit rattle-kit-9\ncommit 0123\nprogram 0 0 0 x\n"
+    )
     variable = "FLEXPRET" if each_script.script == "flexpret" else "FLEXPRET_VIEW"
     each_script.environment[variable] = str(other)
     ran = each_script.run(*each_script.words)
-    assert ran.stderr == f"{each_script.script}: using {other}: built from commit 0123, by rattle-kit-9\n"
+    assert (
+        ran.stderr
+        == f"{each_script.script}: using {other}: built from commit 0123, by rattle-kit-9\n"
+    )
     del each_script.environment[variable]
     assert each_script.run("--quiet", f"--use={other}", *each_script.words).stderr == ""
     assert "commit 0123, rattle-kit-9" in each_script.run("--use", str(other), "--version").stdout
@@ -169,7 +233,10 @@ def test_a_program_that_was_built_elsewhere(each_script: Checkout, tmp_path_fact
 def test_a_program_that_cannot_be_used(each_script: Checkout) -> None:
     for name in ("nosuch", "tools", "crates.txt"):
         ran = each_script.run("--use", name, *each_script.words)
-        assert (ran.returncode, ran.stderr) == (NOT_BUILT, f"{each_script.script}: {name} isn't a program that can be run\n")
+        assert (ran.returncode, ran.stderr) == (
+            NOT_BUILT,
+            f"{each_script.script}: {name} isn't a program that can be run\n",
+        )
     assert each_script.run("--use").returncode == 2
 
 

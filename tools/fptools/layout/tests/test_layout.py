@@ -57,7 +57,9 @@ def test_copies_have_a_limit() -> None:
 
 def test_a_mark_is_never_copied() -> None:
     code = (
-        "\tbne\ta0,zero,.L3\n.L2:\n\taddi\ta1,a1,1\n" + mark("a") + "\tadd\ta1,a1,a2\n.L3:\n\taddi\ta2,a2,1\n"
+        "\tbne\ta0,zero,.L3\n.L2:\n\taddi\ta1,a1,1\n"
+        + mark("a")
+        + "\tadd\ta1,a1,a2\n.L3:\n\taddi\ta2,a2,1\n"
     )
     code += mark("b") + "\tbne\ta2,a1,.L2\n\tret\n"
     assert [it.text for it in laid(code).kept] == [
@@ -95,9 +97,14 @@ def test_a_jump_to_itself_and_an_empty_function_stay() -> None:
 
 def test_a_file_of_the_line_table_comes_before_each_line_of_it() -> None:
     """clang writes it before the first use, and the block with that use may be moved back."""
-    files = '\t.file\t1 "code.c"\n', '\t.file\t2 "." "other.h" md5 0x0123456789abcdef0123456789abcdef\n'
+    files = (
+        '\t.file\t1 "code.c"\n',
+        '\t.file\t2 "." "other.h" md5 0x0123456789abcdef0123456789abcdef\n',
+    )
     code = LOOP_AT_END.replace(".L3:\n", f".L3:\n{files[1]}\t.loc 2 5 3\n")
-    code = code.replace(".L2:\n", ".L2:\n\t.loc 2 6 3\n").replace("\tj\t.L2\n", "\t.loc 1 4 2\n\tj\t.L2\n")
+    code = code.replace(".L2:\n", ".L2:\n\t.loc 2 6 3\n").replace(
+        "\tj\t.L2\n", "\t.loc 1 4 2\n\tj\t.L2\n"
+    )
     lines = laid(files[0] + code).text.splitlines(True)
     first = next(k for k, line in enumerate(lines) if ".loc 2 " in line)
     assert lines.count(files[1]) == 1 and lines.index(files[1]) < first
@@ -122,7 +129,9 @@ def test_a_branch_that_is_too_far_leads_over_a_jump() -> None:
 
 
 def test_a_branch_back_that_is_too_far() -> None:
-    made = body(".L2:\n" + "\tadd\ta1,a1,a0\n" * 1100 + "\taddi\ta0,a0,-1\n\tbne\ta0,zero,.L2\n\tret\n")
+    made = body(
+        ".L2:\n" + "\tadd\ta1,a1,a0\n" * 1100 + "\taddi\ta0,a0,-1\n\tbne\ta0,zero,.L2\n\tret\n"
+    )
     assert made[-5:] == ["addi a0,a0,-1", "beq a0,zero,.Lfp1", "j .L2", ".Lfp1:", "ret"]
 
 
@@ -140,9 +149,7 @@ def test_a_block_that_only_jumps_is_passed() -> None:
 
 
 def test_branches_to_distant_labels_as_gcc_13_writes_them() -> None:
-    code = (
-        "\tj\t.L2\n.L3:\n\taddi\ta0,a0,-1\n.L2:\n\tbne\ta0,zero,1f; jump\t.L4,ra; 1:\n\tj\t.L3\n.L4:\n\tret\n"
-    )
+    code = "\tj\t.L2\n.L3:\n\taddi\ta0,a0,-1\n.L2:\n\tbne\ta0,zero,1f; jump\t.L4,ra; 1:\n\tj\t.L3\n.L4:\n\tret\n"
     made = [it for it in body(code) if not it.startswith(".L")]
     assert made == ["beq a0,zero,.L4", "addi a0,a0,-1", "j .L2", "ret"]
 
@@ -157,9 +164,21 @@ def test_branches_to_distant_labels_as_gcc_13_writes_them() -> None:
             10,
             "`jr a5` jumps to an address in a register: -fno-jump-tables avoids it for a switch; a computed goto has no",
         ),
-        ("\tjalr\tx0, 0(a5)\n", 9, "`jalr x0, 0(a5)` jumps to an address in a register: -fno-jump-tables"),
-        ("\ttail\tg\n", 9, "`tail g`: another function returns for it: -fno-optimize-sibling-calls"),
-        ("\tbne\ta0,a1,g\n\tret\n", 9, "a jump to `g`, which isn't in it: another function returns for it"),
+        (
+            "\tjalr\tx0, 0(a5)\n",
+            9,
+            "`jalr x0, 0(a5)` jumps to an address in a register: -fno-jump-tables",
+        ),
+        (
+            "\ttail\tg\n",
+            9,
+            "`tail g`: another function returns for it: -fno-optimize-sibling-calls",
+        ),
+        (
+            "\tbne\ta0,a1,g\n\tret\n",
+            9,
+            "a jump to `g`, which isn't in it: another function returns for it",
+        ),
         ("\tj\t.L77\n", 9, "a jump to `.L77`, which isn't in it"),
         (
             "\tcall\tt0,__riscv_save_0\n\tret\n",
@@ -172,30 +191,41 @@ def test_branches_to_distant_labels_as_gcc_13_writes_them() -> None:
             "`.section .text.unlikely` is among its code: -fno-reorder-blocks-and-partition keeps it in one section",
         ),
         ("\tnop\n\t.word\t0x13\n\tret\n", 10, "`.word 0x13` is among its code"),
-        ("\t.insn r 0x2b, 0, 0, a0, x0, x0\n\tret\n", 9, "`.insn` is no instruction that fp_layout knows"),
+        (
+            "\t.insn r 0x2b, 0, 0, a0, x0, x0\n\tret\n",
+            9,
+            "`.insn` is no instruction that fp_layout knows",
+        ),
         ("#APP\n\tj\t.L2\n#NO_APP\n.L2:\n\tret\n", 10, "an asm has a jump: `j .L2`"),
-        ("#APP\n1:\n\tbnez a0, 1b\n#NO_APP\n\tret\n", 10, "an asm has the label `1`, to which it may jump"),
+        (
+            "#APP\n1:\n\tbnez a0, 1b\n#NO_APP\n\tret\n",
+            10,
+            "an asm has the label `1`, to which it may jump",
+        ),
         ("#APP\n\tmret\n#NO_APP\n", 10, "an asm has a jump: `mret`"),
         ("#APP\n\tnop; wfi\n#NO_APP\n\tret\n", 10, "`wfi` is no instruction that fp_layout knows"),
         ("#APP\n\t.word 0x73\n#NO_APP\n\tret\n", 10, "an asm has `.word 0x73`"),
         ("#APP\n\tla a0, .L3\n#NO_APP\n.L3:\n\tret\n", 10, "an asm has a jump: `la a0, .L3`"),
     ],
 )
-def test_a_function_that_stays_and_why(tool: Tool, tmp_path: Path, code: str, line: int, why: str) -> None:
+def test_a_function_that_stays_and_why(
+    tool: Tool, tmp_path: Path, code: str, line: int, why: str
+) -> None:
     text = HEAD + function(code) + function(LOOP_AT_END, "g")
     (tmp_path / "x.s").write_text(text)
     ran = tool("fp_layout", tmp_path / "x.s", "-o", tmp_path / "y.s")
     first, *more = ran.stderr.splitlines()
-    assert first.startswith(f"fp_layout: {tmp_path}/x.s:{line}: ") and f"f stays as it is: {why}" in first
+    assert (
+        first.startswith(f"fp_layout: {tmp_path}/x.s:{line}: ")
+        and f"f stays as it is: {why}" in first
+    )
     assert not more and ran.returncode == 1
     written = (tmp_path / "y.s").read_text()
     assert function(code) in written and "beq\ta1,a2,.Lfp1" in written
 
 
 def test_instructions_of_the_source_that_go_straight_on() -> None:
-    code = (
-        '#APP\n# 3 "code.c" 1\n\t.insn r 0x0b, 0, 0, a4, x0, x0\n\t.insn r 0x0b, 1, 0, a5, x0, x0\n# 0 "" 2\n'
-    )
+    code = '#APP\n# 3 "code.c" 1\n\t.insn r 0x0b, 0, 0, a4, x0, x0\n\t.insn r 0x0b, 1, 0, a5, x0, x0\n# 0 "" 2\n'
     code += '# 4 "code.c" 1\n\t/* a; b */ fence\n# 0 "" 2\n# 5 "code.c" 1\n\tcsrr a3, mcause # why; not\n# 0 "" 2\n#NO_APP\n'
     made = body(code + LOOP_AT_END.replace("a5", "a3"))
     assert made[:3] == ["/* a; b */ fence", "csrr a3, mcause # why; not", ".L2:"]

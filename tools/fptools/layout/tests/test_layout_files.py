@@ -107,14 +107,19 @@ def test_an_unknown_frame_is_lost_and_told() -> None:
 def test_labels_of_a_debugger_stay() -> None:
     code = ".LFB0:\n.LVL0:\n\tj\t.L2\n.L3:\n.LBB4:\n\tnop\n.LBE4:\n\tcall\tg\n.LVL1:\n.L2:\n\tbne\ta1,a2,.L3\n\tret\n.LFE0:\n"
     made = code_of(laid(code).text)
-    assert all(f"{label}:" in made for label in (".LFB0", ".LVL0", ".LBB4", ".LBE4", ".LVL1", ".LFE0"))
+    assert all(
+        f"{label}:" in made for label in (".LFB0", ".LVL0", ".LBB4", ".LBE4", ".LVL1", ".LFE0")
+    )
     assert made[made.index("jal g") + 1] == ".LVL1:" and made[-1] == ".LFE0:"
 
 
 @pytest.mark.parametrize(
     ("text", "why"),
     [
-        ("int f(void) { return 3; }\n", "there is no function: is it what gcc or clang writes with -S?"),
+        (
+            "int f(void) { return 3; }\n",
+            "there is no function: is it what gcc or clang writes with -S?",
+        ),
         ("", "there is no function: is it what gcc or clang writes with -S?"),
         (HEAD + "start:\n\tj start\n", "there is no function"),
         (function("\tret\n"), "it isn't assembly for RISC-V that gcc or clang wrote"),
@@ -147,7 +152,9 @@ def test_what_is_no_assembly_of_a_compiler(tool: Tool, tmp_path: Path, text: str
 
 def test_standard_input_and_output(tool: Tool) -> None:
     text = HEAD + function(LOOP_AT_END)
-    assert tool("fp_layout", given=text).stdout == tool("fp_layout", "-", "-o", "-", given=text).stdout
+    assert (
+        tool("fp_layout", given=text).stdout == tool("fp_layout", "-", "-o", "-", given=text).stdout
+    )
     ran = tool("fp_layout", given="nothing")
     assert (ran.returncode, ran.stdout) == (2, "")
     assert ran.stderr.startswith("fp_layout: standard input: there is no function")
@@ -156,10 +163,16 @@ def test_standard_input_and_output(tool: Tool) -> None:
 def test_files_that_are_not_there_or_take_nothing(tool: Tool, tmp_path: Path) -> None:
     for words in ((tmp_path / "none.s",), (tmp_path,)):
         ran = tool("fp_layout", *words)
-        assert ran.returncode == 2 and len(ran.stderr.splitlines()) == 1 and str(tmp_path) in ran.stderr
+        assert (
+            ran.returncode == 2
+            and len(ran.stderr.splitlines()) == 1
+            and str(tmp_path) in ran.stderr
+        )
     (tmp_path / "x.s").write_text(HEAD + function(LOOP_AT_END))
     ran = tool("fp_layout", tmp_path / "x.s", "-o", tmp_path / "no" / "y.s")
-    assert ran.returncode == 2 and f"{tmp_path}/no" in ran.stderr and len(ran.stderr.splitlines()) == 1
+    assert (
+        ran.returncode == 2 and f"{tmp_path}/no" in ran.stderr and len(ran.stderr.splitlines()) == 1
+    )
     ran = subprocess.run(
         f"{sys.executable} {TOOLS}/fp_layout {tmp_path}/x.s > /dev/full",
         shell=True,
@@ -187,7 +200,9 @@ def test_a_file_is_written_at_once_and_keeps_its_mode(tool: Tool, tmp_path: Path
 
 
 def test_bytes_beyond_ascii_stay(tmp_path: Path, tool: Tool) -> None:
-    (tmp_path / "x.s").write_bytes((HEAD + function(LOOP_AT_END)).encode() + b'\t.string "caf\xc3\xa9\xff"\n')
+    (tmp_path / "x.s").write_bytes(
+        (HEAD + function(LOOP_AT_END)).encode() + b'\t.string "caf\xc3\xa9\xff"\n'
+    )
     assert tool("fp_layout", tmp_path / "x.s", "-o", tmp_path / "y.s").returncode == 0
     assert (tmp_path / "y.s").read_bytes().endswith(b'"caf\xc3\xa9\xff"\n')
 
@@ -195,7 +210,13 @@ def test_bytes_beyond_ascii_stay(tmp_path: Path, tool: Tool) -> None:
 def test_usage(tool: Tool) -> None:
     ran = tool("fp_layout", "--help")
     assert ran.returncode == 0 and "--section A:B" in ran.stdout
-    for words in (("--section", "a"), ("--rotate", "-1"), ("--copies", "x"), ("a.s", "b.s"), ("--what",)):
+    for words in (
+        ("--section", "a"),
+        ("--rotate", "-1"),
+        ("--copies", "x"),
+        ("a.s", "b.s"),
+        ("--what",),
+    ):
         assert tool("fp_layout", *words).returncode == 2
 
 
@@ -224,7 +245,9 @@ def garbled(text: str, chance: random.Random) -> str:
 
 
 def test_what_is_garbled_is_laid_out_or_refused() -> None:
-    frame = "\t.cfi_startproc\n\t.loc 1 3 1 is_stmt 0\n\t.cfi_def_cfa_offset 16\n\t.cfi_offset 1, -4\n"
+    frame = (
+        "\t.cfi_startproc\n\t.loc 1 3 1 is_stmt 0\n\t.cfi_def_cfa_offset 16\n\t.cfi_offset 1, -4\n"
+    )
     code = (
         frame
         + mark("a_begin")
@@ -235,7 +258,8 @@ def test_what_is_garbled_is_laid_out_or_refused() -> None:
     outcomes = set()
     for seed in range(400):
         text = garbled(
-            HEAD + function(code) + function(LOOP_AT_END, "g").replace(".L", ".L9"), random.Random(seed)
+            HEAD + function(code) + function(LOOP_AT_END, "g").replace(".L", ".L9"),
+            random.Random(seed),
         )
         try:
             once = lay_out(Assembly(text), Options(rotate=seed % 2 * 4))
@@ -269,11 +293,16 @@ def test_what_does_another_thing_is_seen() -> None:
 
 
 def test_a_branch_that_is_turned_round_does_the_same() -> None:
-    one = [Block(branch=Branch("bne", "a0,a1,", 1), onward=2), *body_of(statements(["\tret"], 1)).blocks]
+    one = [
+        Block(branch=Branch("bne", "a0,a1,", 1), onward=2),
+        *body_of(statements(["\tret"], 1)).blocks,
+    ]
     two = [Block(branch=Branch("beq", "a0,a1,", 2), onward=1), one[1]]
     stop = body_of(statements(["\tmret"], 1)).blocks[0]
     assert do_the_same([*one, stop], [*two, stop])
-    assert not do_the_same([*one, stop], [Block(branch=Branch("beq", "a0,a1,", 1), onward=2), one[1], stop])
+    assert not do_the_same(
+        [*one, stop], [Block(branch=Branch("beq", "a0,a1,", 1), onward=2), one[1], stop]
+    )
 
 
 def test_two_thousand_blocks_take_less_than_two_seconds(tmp_path: Path) -> None:
@@ -281,7 +310,13 @@ def test_two_thousand_blocks_take_less_than_two_seconds(tmp_path: Path) -> None:
     assert count >= 2000
     (tmp_path / "x.s").write_text(HEAD + text)
     before = resource.getrusage(resource.RUSAGE_CHILDREN)
-    command = [sys.executable, str(TOOLS / "fp_layout"), str(tmp_path / "x.s"), "-o", str(tmp_path / "y.s")]
+    command = [
+        sys.executable,
+        str(TOOLS / "fp_layout"),
+        str(tmp_path / "x.s"),
+        "-o",
+        str(tmp_path / "y.s"),
+    ]
     assert subprocess.run(command, env=os.environ, check=False).returncode == 0
     after = resource.getrusage(resource.RUSAGE_CHILDREN)
     assert after.ru_utime + after.ru_stime - before.ru_utime - before.ru_stime < 2

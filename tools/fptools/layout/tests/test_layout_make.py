@@ -97,7 +97,9 @@ def folder(tmp_path: Path) -> Path:
         shutil.copy(TOP / "examples/c" / name, own)
     (tmp_path / "tools").symlink_to(TOOLS)
     (own / "t0_own.c").write_text(OWN)
-    (own / "t1_count.c").write_text('#include "flexpret.h"\nvoid main1(void) { for (;;) FP_PORT = 1; }\n')
+    (own / "t1_count.c").write_text(
+        '#include "flexpret.h"\nvoid main1(void) { for (;;) FP_PORT = 1; }\n'
+    )
     return own
 
 
@@ -113,7 +115,9 @@ def built(folder: Path, *words: str) -> subprocess.CompletedProcess[str]:
     return make(folder, "PROGRAM=own", "OBJECTS=start.o t0_own.o t1_count.o", *words)
 
 
-@pytest.mark.parametrize("words", [(), ("OPTIONS=-O3",), ("OPTIONS=-Os -g",), ("TOOLS=llvm",)], ids=str)
+@pytest.mark.parametrize(
+    "words", [(), ("OPTIONS=-O3",), ("OPTIONS=-Os -g",), ("TOOLS=llvm",)], ids=str
+)
 def test_a_program_of_its_own_has_a_bound(folder: Path, words: tuple[str, ...]) -> None:
     if words == ("TOOLS=llvm",) and not (shutil.which("clang") and shutil.which("ld.lld")):
         pytest.skip("clang or ld.lld isn't installed")
@@ -135,14 +139,17 @@ def test_a_function_that_stays_stops_the_build(folder: Path) -> None:
     (folder / "t0_own.c").write_text(OWN.replace("alarms++;", '__asm__ volatile("wfi");'))
     ran = built(folder)
     assert (
-        ran.returncode != 0 and "t0_own.compiled.s:" in ran.stderr and "`wfi` is no instruction" in ran.stderr
+        ran.returncode != 0
+        and "t0_own.compiled.s:" in ran.stderr
+        and "`wfi` is no instruction" in ran.stderr
     )
     assert not (folder / "own.elf").exists()
 
 
 def test_marks_that_cross_a_loop_stop_the_build(folder: Path) -> None:
     text = OWN.replace(
-        "            if (apart > most)", "            FP_MARK(inner_end);\n            if (apart > most)"
+        "            if (apart > most)",
+        "            FP_MARK(inner_end);\n            if (apart > most)",
     )
     (folder / "t0_own.c").write_text(
         text.replace("    uint32_t most = 0;", "    uint32_t most = 0;\n    FP_MARK(inner_begin);")

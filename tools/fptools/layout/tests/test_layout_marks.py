@@ -39,7 +39,13 @@ def test_marks_keep_what_makes_them_symbols() -> None:
 
 @pytest.mark.parametrize(
     ("one", "other"),
-    [("a_begin", "a_end"), ("a_start", "a_end"), ("a_start", "a_stop"), ("from", "to"), ("begin_a", "end_a")],
+    [
+        ("a_begin", "a_end"),
+        ("a_start", "a_end"),
+        ("a_start", "a_stop"),
+        ("from", "to"),
+        ("begin_a", "end_a"),
+    ],
 )
 def test_names_of_two_marks(one: str, other: str) -> None:
     assert partner(one, [one, other, "b_end"]) == other
@@ -75,7 +81,11 @@ def test_sections_one_behind_the_other_and_around_both() -> None:
 
 
 BEGIN_INSIDE = (
-    ".L2:\n\tlw\ta4,0(a1)\n" + mark("a_begin") + "\taddi\ta1,a1,4\n\tbne\ta1,a2,.L2\n" + mark("a_end") + RET
+    ".L2:\n\tlw\ta4,0(a1)\n"
+    + mark("a_begin")
+    + "\taddi\ta1,a1,4\n\tbne\ta1,a2,.L2\n"
+    + mark("a_end")
+    + RET
 )
 
 END_INSIDE = (
@@ -92,7 +102,13 @@ ROUND = (
     + mark("a_end")
     + "\tbne\ta1,a2,.L2\n\tret\n"
 )
-AT_HEAD = ".L2:\n" + mark("a_end") + "\tlw\ta4,0(a1)\n" + mark("a_begin") + "\tnop\n\tbne\ta1,a2,.L2\n\tret\n"
+AT_HEAD = (
+    ".L2:\n"
+    + mark("a_end")
+    + "\tlw\ta4,0(a1)\n"
+    + mark("a_begin")
+    + "\tnop\n\tbne\ta1,a2,.L2\n\tret\n"
+)
 
 
 @pytest.mark.parametrize(
@@ -101,7 +117,10 @@ AT_HEAD = ".L2:\n" + mark("a_end") + "\tlw\ta4,0(a1)\n" + mark("a_begin") + "\tn
         (BEGIN_INSIDE, "crosses a loop: it begins inside and ends outside of the loop at line 10"),
         (END_INSIDE, "crosses a loop: it begins outside and ends inside of the loop at line 17"),
         (ROUND, "crosses a loop: the loop at line 16 goes round without passing its end"),
-        (AT_HEAD, "crosses a loop: it ends at the head of the loop at line 16, inside which it begins"),
+        (
+            AT_HEAD,
+            "crosses a loop: it ends at the head of the loop at line 16, inside which it begins",
+        ),
     ],
 )
 def test_marks_that_cross_a_loop(tool: Tool, tmp_path: Path, code: str, why: str) -> None:
@@ -109,7 +128,9 @@ def test_marks_that_cross_a_loop(tool: Tool, tmp_path: Path, code: str, why: str
     (tmp_path / "y.s").write_text("old")
     ran = tool("fp_layout", tmp_path / "x.s", "-o", tmp_path / "y.s")
     (line,) = ran.stderr.splitlines()
-    assert f"code.c:7: section a_begin:a_end {why}" in line and line.startswith(f"fp_layout: {tmp_path}/x.s:")
+    assert f"code.c:7: section a_begin:a_end {why}" in line and line.startswith(
+        f"fp_layout: {tmp_path}/x.s:"
+    )
     assert ran.returncode == 2 and ran.stdout == "" and (tmp_path / "y.s").read_text() == "old"
     assert sorted(it.name for it in tmp_path.iterdir()) == ["x.s", "y.s"]
 
@@ -118,7 +139,9 @@ def test_marks_in_two_functions_and_marks_that_are_none() -> None:
     text = HEAD + function(mark("a_begin") + "\tret\n") + function(mark("a_end") + "\tret\n", "g")
     with pytest.raises(Fault, match="section a_begin:a_end begins in f and ends in g"):
         lay_out(Assembly(text))
-    with pytest.raises(Fault, match=r"mark a is also at line 12: the compiler doubled its place, .*noinline"):
+    with pytest.raises(
+        Fault, match=r"mark a is also at line 12: the compiler doubled its place, .*noinline"
+    ):
         lay_out(Assembly(HEAD + function(mark("a") + mark("a") + "\tret\n")))
     with pytest.raises(Fault, match="section p:q: no asm of a function has the label `p`"):
         lay_out(Assembly(text), Options((Marks("p", "q"),)))
@@ -159,7 +182,10 @@ def test_a_trap_in_a_section_inside_a_loop() -> None:
         + "\tbeq\ta1,zero,.L9\n\tj\t.L2\n.L9:\n\tebreak\n"
     )
     made = code_of(laid(code).text)
-    assert made.index("a_begin:") < made.index("ebreak") < made.index("a_end:") and made.count("ebreak") == 2
+    assert (
+        made.index("a_begin:") < made.index("ebreak") < made.index("a_end:")
+        and made.count("ebreak") == 2
+    )
 
 
 def test_a_spin_in_a_section_inside_a_loop() -> None:

@@ -65,12 +65,16 @@ def tried(
             found.append((shapes(executable, names), image))
         (compiled, one), (laid, other) = found
         for name in names:
-            ran, laid_ran = compiled[name].ran(runner, one, visits), laid[name].ran(runner, other, visits)
+            ran, laid_ran = compiled[name].ran(runner, one, visits), laid[name].ran(
+                runner, other, visits
+            )
             yield name, Tried(compiled[name], laid[name], ran, laid_ran)
 
 
 @pytest.fixture(scope="module", params=WAYS, ids=str)
-def of_way(request: pytest.FixtureRequest, tmp_path_factory: pytest.TempPathFactory) -> dict[str, Tried]:
+def of_way(
+    request: pytest.FixtureRequest, tmp_path_factory: pytest.TempPathFactory
+) -> dict[str, Tried]:
     needs(*NEEDED)
     return dict(tried(tmp_path_factory.mktemp("shapes"), request.param))
 
@@ -136,7 +140,12 @@ SHAPE(u32 x) {{ u32 s = x; for (u32 i = 0; i < (x & 3); i++) {{
 
 @pytest.mark.parametrize(
     "way",
-    [Way("-O2", True), Way("-Os", False), Way("-O1", False, rotate=4), Way("-O2", True, is_clang=True)],
+    [
+        Way("-O2", True),
+        Way("-Os", False),
+        Way("-O1", False, rotate=4),
+        Way("-O2", True, is_clang=True),
+    ],
     ids=str,
 )
 def test_branches_that_are_too_far(tmp_path: Path, way: Way) -> None:
@@ -150,7 +159,9 @@ def test_branches_that_are_too_far(tmp_path: Path, way: Way) -> None:
 # ---------------------------------------------------------------- clang
 
 
-@pytest.mark.parametrize("way", [Way("-O2", True, is_clang=True), Way("-Os", False, is_clang=True)], ids=str)
+@pytest.mark.parametrize(
+    "way", [Way("-O2", True, is_clang=True), Way("-Os", False, is_clang=True)], ids=str
+)
 def test_clang_by_its_assembly(tmp_path: Path, way: Way) -> None:
     """Its calls are single words, which the analyser goes through."""
     needs(*NEEDED, "clang")
@@ -298,7 +309,9 @@ class Machine:
 def machine(tmp_path: Path) -> Machine:
     program = os.environ.get("FLEXPRET") or str(BUILT)
     is_built = os.access(program, os.X_OK)
-    return Machine((str(Path(program).resolve()),) if is_built else (sys.executable, "-m", "model"), tmp_path)
+    return Machine(
+        (str(Path(program).resolve()),) if is_built else (sys.executable, "-m", "model"), tmp_path
+    )
 
 
 @pytest.mark.parametrize("name", ["early", "two_ways_in", "sw_loop", "calls_in_loop", "isort"])

@@ -130,7 +130,9 @@ def test_moments_that_are_no_such_distance_apart(case: Case, source: str, why: s
 def test_a_second_loop_that_is_entered_at_two_words(case: Case) -> None:
     """Its waits are late, and it is no natural loop: the answer for the first loop isn't the
     thread's."""
-    late = f"two: {NEXT}wu x11, x10\nnop\nmid: li x5, 300\nin: addi x5, x5, -1\nbnez x5, in\nj two\n"
+    late = (
+        f"two: {NEXT}wu x11, x10\nnop\nmid: li x5, 300\nin: addi x5, x5, -1\nbnez x5, in\nj two\n"
+    )
     leaves = "lw x5, 0(x15)\nbeq x5, x0, head\nlw x6, 0(x15)\nbeq x6, x5, mid\n"
     found = case(loop().replace("j head\n", leaves) + late)
     assert found.status == 2 and "is entered at several words" in found.text, found

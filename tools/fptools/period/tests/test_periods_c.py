@@ -127,7 +127,9 @@ NESTED = "for (int k = 0; k < 5; k++) { next += P; fp_wait_until(next); table[FP
 NESTED += " next += P; fp_wait_until(next); FP_PORT = work(FP_PORT);"
 TWO_LOOPS = "do { tick(); table[FP_PORT & 15]++; } while (FP_PORT & 1);\n"
 TWO_LOOPS += "do { tick(); FP_PORT = work(4); } while (FP_PORT & 2);"
-BY_HAND = "next += P; fp_wait_until(next); FP_PORT = 1; next += P; fp_wait_until(next); FP_PORT = 0;"
+BY_HAND = (
+    "next += P; fp_wait_until(next); FP_PORT = 1; next += P; fp_wait_until(next); FP_PORT = 0;"
+)
 
 
 @pytest.mark.parametrize("level", ["-O2", "-Os"])
@@ -277,9 +279,7 @@ INSIDE = "__attribute__((noinline, noipa)) static void inside(void) { memcpy(one
     ],
     ids=["in the loop", "by a function", "before the loop"],
 )
-def test_a_call_that_passes_more_than_the_claim_says(
-    tool: Tool, tmp_path: Path, body: str
-) -> None:
+def test_a_call_that_passes_more_than_the_claim_says(tool: Tool, tmp_path: Path, body: str) -> None:
     """Wherever the thread calls it: the claim is of its whole run."""
     status, text = Built(
         tool, tmp_path, (COPY + INSIDE + f"{BEGIN}{body}\n}}\n").replace("SIZE", "160")

@@ -64,8 +64,14 @@ def test_a_source(source: str, text: str, mark: str, hint: str) -> None:
 
 
 def test_a_second_line_that_plays_a_part() -> None:
-    assert explanation("a: nop\nb: nop\na: nop\n")[-2:] == ["x.s:1: it is here first", "    1 | a: nop"]
-    assert explanation(" nop\n.org 0\n nop")[-2:] == ["x.s:1: it is placed here first", "    1 |  nop"]
+    assert explanation("a: nop\nb: nop\na: nop\n")[-2:] == [
+        "x.s:1: it is here first",
+        "    1 | a: nop",
+    ]
+    assert explanation(" nop\n.org 0\n nop")[-2:] == [
+        "x.s:1: it is placed here first",
+        "    1 |  nop",
+    ]
 
 
 def test_faults_of_a_whole_source() -> None:
@@ -156,7 +162,9 @@ def test_jumps_through_registers(tool: Tool, tmp_path: Path, word: str, hint: st
     from fptools.testing.modelled import make
 
     made = make(tmp_path, f"        {word}\n", 0)
-    assert hint in explained(tool, "refused bound 2 IndirectJump 00000000", "--setup", made.setup)[1]
+    assert (
+        hint in explained(tool, "refused bound 2 IndirectJump 00000000", "--setup", made.setup)[1]
+    )
 
 
 def test_an_overflow_has_no_place(tool: Tool) -> None:
@@ -174,7 +182,9 @@ def test_setups_and_sections(tool: Tool, tmp_path: Path) -> None:
         f"{setup}:13: error: slots[3]: 'X' is not one of {allowed}"
     ]
     setup.write_text(text.replace('mode = "hard"', 'mode = "hard'))
-    assert explained(tool, "refused setup 2 Toml -", "--setup", setup)[0].startswith(f"{setup}:22: error: ")
+    assert explained(tool, "refused setup 2 Toml -", "--setup", setup)[0].startswith(
+        f"{setup}:22: error: "
+    )
     setup.write_text(text.replace('mode = "hard"', 'mode = "soft"'))
     lines = explained(tool, "refused section 1 NotHard", "--setup", setup, "--thread", "0")
     assert lines == [
@@ -183,7 +193,9 @@ def test_setups_and_sections(tool: Tool, tmp_path: Path) -> None:
     lines = explained(tool, "refused section 1 NotHard", "--setup", setup, "--thread", "5")
     hint = 'T5: no [[thread]] has id = 5: it starts asleep; add a table with mode = "hard" and an entry'
     assert lines == [f"{setup}: error: {hint}"]
-    assert explained(tool, "refused section 3 Order")[0].startswith("error: --to isn't above --from")
+    assert explained(tool, "refused section 3 Order")[0].startswith(
+        "error: --to isn't above --from"
+    )
 
 
 def test_images_and_routines(tool: Tool, tmp_path: Path) -> None:
@@ -238,7 +250,9 @@ def test_the_program_s_own_line_is_explained(tool: Tool, tmp_path: Path) -> None
 
     source = tmp_path / "it.s"
     source.write_text("        nop\n        adi x1, x1, 1\n")
-    ran = subprocess.run([program(tmp_path), "asm", source], capture_output=True, text=True, check=False)
+    ran = subprocess.run(
+        [program(tmp_path), "asm", source], capture_output=True, text=True, check=False
+    )
     assert ran.returncode == 5
     assert (
         explained(tool, "--file", source, given=ran.stdout)[0]

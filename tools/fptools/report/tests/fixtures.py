@@ -14,7 +14,9 @@ from fptools.report.tests.pages import PID, RUN
 def reporting(tmp_path_factory: pytest.TempPathFactory) -> Tool:
     """Runs a tool at the top of the repository, with the program; without one, with the model in its place."""
     built = os.environ.get("FLEXPRET") or str(BUILT)
-    return Tool(TOP, built if os.access(built, os.X_OK) else str(program(tmp_path_factory.mktemp("model"))))
+    return Tool(
+        TOP, built if os.access(built, os.X_OK) else str(program(tmp_path_factory.mktemp("model")))
+    )
 
 
 @pytest.fixture(scope="module")

@@ -51,7 +51,9 @@ def test_the_words_are_those_of_the_assumptions() -> None:
     assert TESTED in plain
 
 
-def test_the_same_input_gives_the_same_bytes(reporting: Tool, pid_page: Path, tmp_path: Path) -> None:
+def test_the_same_input_gives_the_same_bytes(
+    reporting: Tool, pid_page: Path, tmp_path: Path
+) -> None:
     again = tmp_path / "again.html"
     tool = Tool(TOP, reporting.environment["FLEXPRET"])
     tool.environment["PYTHONHASHSEED"] = "1"
@@ -68,7 +70,9 @@ def test_the_page_needs_no_network(pid_page: Path) -> None:
     text = pid_page.read_text()
     assert "@import" not in text and not re.search(r"url\((?!#)", text)
     (policy,) = (
-        it["content"] for tag, it in page.elements if it.get("http-equiv") == "Content-Security-Policy"
+        it["content"]
+        for tag, it in page.elements
+        if it.get("http-equiv") == "Content-Security-Policy"
     )
     assert policy and policy.startswith("default-src 'none'; ") and "http" not in policy
 
@@ -122,7 +126,9 @@ def test_the_timeline_has_the_traces(reporting: Tool, pid_page: Path) -> None:
 def test_the_longest_execution_is_shown_by_source_line(reporting: Tool, tmp_path: Path) -> None:
     setup, budgets = held("taps16", tmp_path)
     out, elf = tmp_path / "report.html", HOLDS / "taps16.elf"
-    loops = reporting("fp_loops", elf, "--from", "work_begin", "--to", "work_end", "--src", HOLDS).stdout
+    loops = reporting(
+        "fp_loops", elf, "--from", "work_begin", "--to", "work_end", "--src", HOLDS
+    ).stdout
     setup.write_text(setup.read_text() + loops)
     words = (setup, budgets, "--elf", elf, "--src", HOLDS, "--cycles", "5000", "-o", out)
     ran = reporting("fp_report", *words)
@@ -133,7 +139,9 @@ def test_the_longest_execution_is_shown_by_source_line(reporting: Tool, tmp_path
         r"taps\.c:11 main0 for \(int i = 0; i < TAPS; i\+\+\) \d+ \d+ \d+\.\d %",
         text,
     )
-    assert re.search(r"taps\.c:12 main0 \{ FP_ROUND\(i\); sum \+= samples\[i\]; \} \d+ \d+ \d+\.\d %", text)
+    assert re.search(
+        r"taps\.c:12 main0 \{ FP_ROUND\(i\); sum \+= samples\[i\]; \} \d+ \d+ \d+\.\d %", text
+    )
 
 
 @pytest.mark.parametrize(
@@ -163,7 +171,9 @@ def test_addresses_do_without_an_executable(reporting: Tool, tmp_path: Path) -> 
     ran = reporting("fp_report", "examples/sum.toml", budgets, "--cycles", "2000", "-o", out)
     assert ran.returncode == 0, ran.stdout + ran.stderr
     text = read(out).text
-    assert "0x10 to 0x3c" in text and "184 cycles 1.84 µs 184 cycles 1.84 µs 200 cycles 2 µs" in text
+    assert (
+        "0x10 to 0x3c" in text and "184 cycles 1.84 µs 184 cycles 1.84 µs 200 cycles 2 µs" in text
+    )
 
 
 @pytest.mark.parametrize(
@@ -174,10 +184,14 @@ def test_addresses_do_without_an_executable(reporting: Tool, tmp_path: Path) -> 
         ("800:1000", "M0 0H52"),  # the wait is before the window
     ],
 )
-def test_sleep_is_shown_from_the_wait_on(reporting: Tool, tmp_path: Path, window: str, sleep: str) -> None:
+def test_sleep_is_shown_from_the_wait_on(
+    reporting: Tool, tmp_path: Path, window: str, sleep: str
+) -> None:
     out = tmp_path / "report.html"
     assert reporting("fp_report", *PID, *RUN, "--window", window, "-o", out).returncode == 0
-    found = [it["d"] for tag, it in read(out).elements if it.get("class") == "sleep" and tag == "path"]
+    found = [
+        it["d"] for tag, it in read(out).elements if it.get("class") == "sleep" and tag == "path"
+    ]
     assert found[0] == sleep
 
 

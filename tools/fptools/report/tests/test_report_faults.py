@@ -85,7 +85,9 @@ def test_what_is_refused_writes_nothing(
         ((), "the following arguments are required: -o"),
     ],
 )
-def test_wrong_arguments_are_named(tool: Tool, tmp_path: Path, words: tuple[str, ...], said: str) -> None:
+def test_wrong_arguments_are_named(
+    tool: Tool, tmp_path: Path, words: tuple[str, ...], said: str
+) -> None:
     out = ("-o", tmp_path / "report.html") if words else ()
     ran = tool("fp_report", *PID, *words, *out)
     assert ran.returncode == 2 and said in ran.stderr and not list(tmp_path.iterdir())
@@ -123,7 +125,15 @@ def test_an_interrupt_leaves_nothing(reporting: Tool, tmp_path: Path) -> None:
     real = reporting.environment["FLEXPRET"]
     marking.write_text(f'#!/bin/sh\n[ "$1" != run ] || : > {begun}\nexec {real} "$@"\n')
     marking.chmod(0o755)
-    words = [sys.executable, TOOLS / "fp_report", *PID, "--cycles", "4000000000", "-o", kept / "report.html"]
+    words = [
+        sys.executable,
+        TOOLS / "fp_report",
+        *PID,
+        "--cycles",
+        "4000000000",
+        "-o",
+        kept / "report.html",
+    ]
     environment = {**os.environ, "FLEXPRET": str(marking)}
     with subprocess.Popen(
         list(map(str, words)),
@@ -153,7 +163,9 @@ def test_a_link_keeps_leading_to_the_page(reporting: Tool, tmp_path: Path) -> No
     assert link.is_symlink() and real.read_text().startswith("<!doctype html>")
 
 
-def test_the_installed_tool_writes_the_same_page(flexpret: str, pid_page: Path, tmp_path: Path) -> None:
+def test_the_installed_tool_writes_the_same_page(
+    flexpret: str, pid_page: Path, tmp_path: Path
+) -> None:
     if not Path(flexpret).read_bytes().startswith(b"\x7fELF"):
         pytest.skip("install.sh takes no script in place of the program")
     prefix, out = tmp_path / "prefix", tmp_path / "report.html"

@@ -29,7 +29,9 @@ def full_page(reporting: Tool, tmp_path_factory: pytest.TempPathFactory) -> Path
     """A page with budgets that hold, are over and are unknown, with long and hostile names."""
     folder = tmp_path_factory.mktemp("full")
     budgets, out = folder / "budgets.toml", folder / "report.html"
-    section = '[[budget]]\nname = "pulse"\nthread = 1\nfrom = "main1"\nto = "main1+8"\ncycles = 70\n'
+    section = (
+        '[[budget]]\nname = "pulse"\nthread = 1\nfrom = "main1"\nto = "main1+8"\ncycles = 70\n'
+    )
     names = [
         json.dumps(HOSTILE),
         '"a_name_that_is_long_and_has_no_place_to_break_it_in_two"',
@@ -62,11 +64,17 @@ def test_the_page_is_readable(
     assert browser.outside() == []
     assert browser.faint() == []
     assert {it for it in browser.requests() if not it.startswith("data:")} == {page.as_uri()}
-    dark = browser.run("return getComputedStyle(document.body).backgroundColor") == "rgb(18, 22, 27)"
+    dark = (
+        browser.run("return getComputedStyle(document.body).backgroundColor") == "rgb(18, 22, 27)"
+    )
     assert dark == (scheme == "dark")
     shot = browser.picture()
     (tmp_path / "page.png").write_bytes(shot)
-    assert shot.startswith(b"\x89PNG") and int.from_bytes(shot[16:20], "big") == width and len(shot) > 50_000
+    assert (
+        shot.startswith(b"\x89PNG")
+        and int.from_bytes(shot[16:20], "big") == width
+        and len(shot) > 50_000
+    )
     assert int.from_bytes(shot[20:24], "big") > 2000
 
 
@@ -83,7 +91,9 @@ def test_the_pointer_shows_instruction_effect_and_stage(browser: Browser, pid_pa
     for stage, cycle in zip("FDEMW", range(120, 125)):
         browser.point(left + (cycle - 80 + 0.5) * width / browser.view()[1], top + 20 + 22)
         text = " ".join(browser.run("return document.querySelector('.readout').innerText").split())
-        assert text.startswith(f"{heads.get(cycle, 'Cycle')}") and "T0 in the five stages: F" in text
+        assert (
+            text.startswith(f"{heads.get(cycle, 'Cycle')}") and "T0 in the five stages: F" in text
+        )
         assert f"{stage} 0xb4 add a4, a2, a6 \u2192 x14=00001978 step_begin" in text
     assert browser.console() == []
 
@@ -125,8 +135,12 @@ def test_without_scripts_the_window_is_shown(pid_page: Path) -> None:
     page = read(pid_page)
     (cells,) = (it for tag, it in page.elements if it.get("class") == "cells")
     assert cells["viewbox"] == "0 0 424 372"
-    issues = [it["d"] or "" for tag, it in page.elements if (it.get("class") or "").startswith("issue ")]
-    assert sum(path.count("M") for path in issues) == sum(len(row["gaps"]) for row in page.data["rows"])
+    issues = [
+        it["d"] or "" for tag, it in page.elements if (it.get("class") or "").startswith("issue ")
+    ]
+    assert sum(path.count("M") for path in issues) == sum(
+        len(row["gaps"]) for row in page.data["rows"]
+    )
     assert [tag for tag, it in page.elements if "hidden" in it and tag in ("div", "input")] == [
         "div",
         "input",

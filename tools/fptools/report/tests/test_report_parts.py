@@ -40,7 +40,9 @@ def test_lines_add_up_to_the_execution(name: str, tmp_path: Path) -> None:
         assert [it.cycles for it in spots] == sorted((it.cycles for it in spots), reverse=True)
 
 
-def tally(numbers: dict[int, int], bound: int | None = None, budget: int | None = None) -> Executions:
+def tally(
+    numbers: dict[int, int], bound: int | None = None, budget: int | None = None
+) -> Executions:
     seen = Executions(Watched("it", 0, 4, bound=bound, budget=budget))
     for cycles, times in numbers.items():
         seen.whole.add(cycles, 0, times)
@@ -51,7 +53,10 @@ def tally(numbers: dict[int, int], bound: int | None = None, budget: int | None 
 def test_a_histogram_has_each_execution_once(seed: int) -> None:
     chance = random.Random(seed)
     low, spread = chance.choice([0, 8, 344, 10**6]), chance.choice([1, 5, 40, 41, 1000, 10**7])
-    numbers = {low + chance.randrange(spread): chance.randint(1, 1000) for _ in range(chance.randint(1, 60))}
+    numbers = {
+        low + chance.randrange(spread): chance.randint(1, 1000)
+        for _ in range(chance.randint(1, 60))
+    }
     most = max(numbers)
     seen = tally(
         numbers,
@@ -72,12 +77,17 @@ def test_a_histogram_has_each_execution_once(seed: int) -> None:
     assert {it.cycles for it in (*found.marks, *found.beyond)} == limits
     columns = {round(bar.x, 3) for bar in found.bars}
     for cycles in numbers:
-        assert any(low <= cycles <= high for low, high in map(range_of, found.bars)), (cycles, columns)
+        assert any(low <= cycles <= high for low, high in map(range_of, found.bars)), (
+            cycles,
+            columns,
+        )
 
 
 def range_of(bar: Any) -> tuple[int, int]:
     """The cycles that a bar's text names."""
-    numbers = [int(it.replace(",", "")) for it in re.findall(r"[\d,]+", bar.text.split(" cycles")[0])]
+    numbers = [
+        int(it.replace(",", "")) for it in re.findall(r"[\d,]+", bar.text.split(" cycles")[0])
+    ]
     return numbers[0], numbers[-1]
 
 
@@ -101,4 +111,8 @@ def test_times_have_their_unit(ns: int, text: str) -> None:
 
 
 def test_other_numbers_have_their_unit() -> None:
-    assert (cycles_text(1), cycles_text(12345), part_text(0.1234)) == ("1 cycle", "12,345 cycles", "12.3 %")
+    assert (cycles_text(1), cycles_text(12345), part_text(0.1234)) == (
+        "1 cycle",
+        "12,345 cycles",
+        "12.3 %",
+    )

@@ -142,7 +142,10 @@ def test_a_stack_that_does_not_fit_makes_a_budget_unknown(
     why = "the stack may not fit: 896 of 844 bytes: main0 (16) > large (880); below is .bss0"
     for words in ((), ("--assume", "stack fits")):
         status, line, told = budget(asking, made, *words)
-        assert (status, line.startswith(f"UNKNOWN  T0 step_begin to step_end: {why}: ")) == (2, True)
+        assert (status, line.startswith(f"UNKNOWN  T0 step_begin to step_end: {why}: ")) == (
+            2,
+            True,
+        )
         assert "assume" not in line and told == ""
 
 

@@ -28,7 +28,15 @@ def shown(tool: Tool, *words: str, given: str = "") -> list[str]:
 
 def test_time_gap_and_symbol(tool: Tool) -> None:
     lines = shown(
-        tool, "examples/c/pid.trace", *PID, "--objdump", "", "--pc", "step_end", "--store", "0x40000000"
+        tool,
+        "examples/c/pid.trace",
+        *PID,
+        "--objdump",
+        "",
+        "--pc",
+        "step_end",
+        "--store",
+        "0x40000000",
     )
     assert lines == [
         "440 4400 +4 0000018c step_begin+0xd8 0x00e8a023 [40000000]/4=001e0000",
@@ -40,14 +48,25 @@ def test_time_gap_and_symbol(tool: Tool) -> None:
 
 def test_cycles_narrow_what_is_shown(tool: Tool) -> None:
     lines = shown(
-        tool, "examples/c/pid.trace", *PID, "--objdump", "", "--waits", "--from", "465", "--to", "1201"
+        tool,
+        "examples/c/pid.trace",
+        *PID,
+        "--objdump",
+        "",
+        "--waits",
+        "--from",
+        "465",
+        "--to",
+        "1201",
     )
     assert [line.split()[0] for line in lines] == ["1200"]
     assert shown(tool, "examples/c/pid.trace", "--from", "464", "--to", "464") == []
 
 
 def test_a_function_by_one_of_its_addresses(tool: Tool) -> None:
-    lines = shown(tool, "examples/c/pid.trace", *PID, "--objdump", "", "--function", "step_end", "--to", "30")
+    lines = shown(
+        tool, "examples/c/pid.trace", *PID, "--objdump", "", "--function", "step_end", "--to", "30"
+    )
     assert [line.split()[4] for line in lines] == ["main0", "main0+0x4"]
 
 
@@ -61,7 +80,9 @@ def test_traps_have_their_cause_and_an_expiry_no_instruction(tool: Tool) -> None
 @pytest.mark.parametrize("objdump", OBJDUMPS)
 def test_instructions_by_an_objdump(tool: Tool, objdump: str, tmp_path: Path) -> None:
     # GNU's objdump of one target reads each RISC-V, and Debian has one for 64 bits alone.
-    found = shutil.which(objdump) or shutil.which(objdump.replace("riscv32-unknown", "riscv64-unknown"))
+    found = shutil.which(objdump) or shutil.which(
+        objdump.replace("riscv32-unknown", "riscv64-unknown")
+    )
     if found is None:
         pytest.skip(f"{objdump} isn't installed")
     (tmp_path / objdump).symlink_to(found)
@@ -83,14 +104,20 @@ def test_source_lines(tool: Tool) -> None:
     assert shown(tool, *given, given=event) == [
         "12 120 +0 00000020 sum_of+0x20 0xfed598e3 <sum_of+0x10> - loops.c:13"
     ]
-    assert shown(tool, *given, "--src", "tools/fptools/testing", given=event)[0].endswith(f"loops.c:13 {text}")
+    assert shown(tool, *given, "--src", "tools/fptools/testing", given=event)[0].endswith(
+        f"loops.c:13 {text}"
+    )
 
 
 @pytest.mark.parametrize(
     ("words", "given", "error"),
     [
         (("--pc", "main0"), "", f"main0 is a name, and names need {NAMES}"),
-        (("--elf", LOOPS, "--pc", "main0+"), "", "main0+ is no address: a number, NAME or NAME+NUMBER"),
+        (
+            ("--elf", LOOPS, "--pc", "main0+"),
+            "",
+            "main0+ is no address: a number, NAME or NAME+NUMBER",
+        ),
         (("--elf", "README.md"), "", "README.md is no ELF file: Magic number does not match"),
         (("--elf", LOOPS, "--function", "0x4000"), "", f"0x4000 is in no function of {LOOPS}"),
         (("--function", "8"), "", "8: functions need an executable: give --elf FILE"),
@@ -107,7 +134,9 @@ def test_what_cannot_be_shown(tool: Tool, words: tuple[str, ...], given: str, er
 
 def test_a_setup_that_is_refused_gives_no_period(tool: Tool, tmp_path: Path) -> None:
     setup = tmp_path / "setup.toml"
-    setup.write_text((TOP / "examples/c/pid.toml").read_text().replace("period = 10", 'period = "10"'))
+    setup.write_text(
+        (TOP / "examples/c/pid.toml").read_text().replace("period = 10", 'period = "10"')
+    )
     ran = tool("fp_trace", "examples/c/pid.trace", "--setup", setup)
     assert (ran.returncode, ran.stdout, ran.stderr) == (
         2,
@@ -173,7 +202,10 @@ WHOLE = "         0 00000000 00000013 -\n         4 00000004 00000013 x05=000000
             "         8 00000008 000",
             "line 3 is broken: it has no line feed, so the trace was cut: '         8 00000008 000'",
         ),
-        ("         4 00000008 00000013 -\n", "line 3 is broken: its cycle isn't above 4, the one before"),
+        (
+            "         4 00000008 00000013 -\n",
+            "line 3 is broken: its cycle isn't above 4, the one before",
+        ),
     ],
 )
 def test_events_before_a_broken_line_are_shown(tool: Tool, broken: str, text: str) -> None:
@@ -185,7 +217,12 @@ def test_events_before_a_broken_line_are_shown(tool: Tool, broken: str, text: st
 
 def test_nothing_is_read_behind_the_last_cycle(tool: Tool) -> None:
     ran = tool(
-        "fp_trace", "--objdump", "", "--to", "5", given=WHOLE + "         8 00000008 00000013 -\nrubbish"
+        "fp_trace",
+        "--objdump",
+        "",
+        "--to",
+        "5",
+        given=WHOLE + "         8 00000008 00000013 -\nrubbish",
     )
     assert (ran.returncode, ran.stderr) == (0, "")
     assert [line.split()[0] for line in ran.stdout.splitlines()] == ["cycle", "0", "4"]
@@ -217,7 +254,9 @@ def test_overruns_alone(tool: Tool, tmp_path: Path) -> None:
 
 
 def test_json_a_line_an_event(tool: Tool) -> None:
-    ran = tool("fp_trace", "examples/traps.trace", "--json", "--objdump", "", "--from", "8", "--to", "24")
+    ran = tool(
+        "fp_trace", "examples/traps.trace", "--json", "--objdump", "", "--from", "8", "--to", "24"
+    )
     lines = [json.loads(line) for line in ran.stdout.splitlines()]
     assert [it["cycle"] for it in lines] == [8, 12, 16, 20]
     last = lines[-1]
@@ -242,7 +281,16 @@ def test_labels_and_lines_of_a_map(tool: Tool, tmp_path: Path) -> None:
     names = tmp_path / "sum.map"
     assert tool("fp_asm", "examples/sum.s", "examples/sum.fpx", "--map", names).returncode == 0
     lines = shown(
-        tool, "examples/sum.trace", "--map", str(names), "--objdump", "", "--pc", "sum", "--to", "40"
+        tool,
+        "examples/sum.trace",
+        "--map",
+        str(names),
+        "--objdump",
+        "",
+        "--pc",
+        "sum",
+        "--to",
+        "40",
     )
     assert lines == [
         "36 360 +4 00000024 sum 0x0001a383 x07=00000003 sum.s:11 sum: lw x7, 0(x3) # 0x24: eight rounds"
@@ -258,7 +306,13 @@ def test_events_by_the_library() -> None:
         (28, 4, None),
         (32, 4, None),
     ]
-    assert (events[0].handler, events[0].issues, events[1].register, events[1].csr, events[1].stored) == (
+    assert (
+        events[0].handler,
+        events[0].issues,
+        events[1].register,
+        events[1].csr,
+        events[1].stored,
+    ) == (
         0x100,
         True,
         5,

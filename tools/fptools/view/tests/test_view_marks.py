@@ -65,7 +65,9 @@ def test_marks_of_a_thread_are_drawn_beside_each_other() -> None:
     assert len(tops) == 3
     for (top, height), (after, _) in zip(sorted(tops), sorted(tops)[1:]):
         assert top + height <= after
-    second = [it for it in ElementTree.fromstring(picture.text()).iter(f"{SPACE}text") if it.text == "T1"]
+    second = [
+        it for it in ElementTree.fromstring(picture.text()).iter(f"{SPACE}text") if it.text == "T1"
+    ]
     assert max(top + height for top, height in tops) <= float(second[0].attrib["y"])
 
 

@@ -48,7 +48,9 @@ def executions(issues: list[Issue], watched: Watched) -> Seen:
             own = watched.start <= issue.pc < watched.end
             traps_in_section = issue.cause is not None and inside
             if issue.pc in ends:
-                (seen.interrupted if has_trap else seen.detours).append((begun, issue.cycle - begun))
+                (seen.interrupted if has_trap else seen.detours).append(
+                    (begun, issue.cycle - begun)
+                )
                 begun = None
             elif traps_in_section or not (own or issue.pc in resumes):
                 pass
@@ -224,7 +226,10 @@ def test_calls(tmp_path: Path, block_bytes: int) -> None:
     made = make(tmp_path, CALLS, 0, inputs=random_inputs(2))
     at = made.labels
     routines = (at["twice"], at["twice"] + 28), (at["once"], at["once"] + 12)
-    watched = [Watched("all", at["begin"], at["end"], routines), Watched("own", at["begin"], at["end"])]
+    watched = [
+        Watched("all", at["begin"], at["end"], routines),
+        Watched("own", at["begin"], at["end"]),
+    ]
     tables = [LoopTable(at["again"], at["end"] - 8, 3), LoopTable(at["once"], at["once"] + 4, 2)]
     compared(made, 8000, watched, tables)
 
@@ -250,7 +255,9 @@ def test_functions(tmp_path: Path, block_bytes: int) -> None:
                 | (offset >> 12 & 0xFF) << 12
             ):
                 stack.append((name, issue.pc + 4, issue.cycle))
-    watched = [Watched(name, made.labels[name], made.labels[name] + 4, is_function=True) for name in wanted]
+    watched = [
+        Watched(name, made.labels[name], made.labels[name] + 4, is_function=True) for name in wanted
+    ]
     seen = observe(TraceReader(io.BytesIO(trace_of(issues)), "trace"), Question(0, watched))
     for found in seen.executions:
         lengths = wanted[found.watched.name]
@@ -282,7 +289,12 @@ def test_a_delay_behind_a_section_ends_it_at_its_first_try(
 ) -> None:
     made = make(tmp_path, DELAYS, 0, slots, inputs=random_inputs(3))
     at = made.labels
-    compared(made, 8000, [Watched("it", at["begin"], at["end"])], [LoopTable(at["work"], at["work"] + 4, 31)])
+    compared(
+        made,
+        8000,
+        [Watched("it", at["begin"], at["end"])],
+        [LoopTable(at["work"], at["work"] + 4, 31)],
+    )
     assert any(it.line is None for it in issues_of(made.setup.read_text(), made.image, 8000))
 
 
@@ -376,6 +388,9 @@ def test_ways_out_of_a_section(tmp_path: Path, block_bytes: int) -> None:
     compared(
         made,
         8000,
-        [Watched("it", at["begin"], at["end"]), Watched("both", at["begin"], at["end"], exits=exits)],
+        [
+            Watched("it", at["begin"], at["end"]),
+            Watched("both", at["begin"], at["end"], exits=exits),
+        ],
         [],
     )

@@ -42,9 +42,13 @@ def test_why_there_is_no_bound(tool: Tool, tmp_path: Path) -> None:
 
 def test_a_run_of_the_program(tool: Tool, tmp_path: Path) -> None:
     words = ("--setup", "examples/sum.toml", "--cycles", "816", "--flexpret", program(tmp_path))
-    assert shown(tool, *words, "--section", "visit=0x10:0x3c")[2] == "visit 4 184 184.0 184 16 184 1.00 -"
     assert (
-        shown(tool, *words, "--to", "400", "--section", "0x10:0x3c")[0] == "T0: 100 events, cycles 0 to 396"
+        shown(tool, *words, "--section", "visit=0x10:0x3c")[2]
+        == "visit 4 184 184.0 184 16 184 1.00 -"
+    )
+    assert (
+        shown(tool, *words, "--to", "400", "--section", "0x10:0x3c")[0]
+        == "T0: 100 events, cycles 0 to 396"
     )
     assert shown(tool, *words[1:], "--section", "0x10:0x3c")[0] == "T0: 200 events, cycles 0 to 808"
 
@@ -93,7 +97,9 @@ def test_a_bound_isnt_broken_where_a_table_was(tool: Tool, tmp_path: Path) -> No
     setup.write_text((TOP / "examples/sum.toml").read_text().replace("bound = 7", "bound = 6"))
     words = ("--section", "visit=0x10:0x3c", "--flexpret", answering(tmp_path, "bound 164"))
     lines = shown(tool, "examples/sum.trace", "--setup", setup, *words, status=1)
-    assert [line.split()[0] for line in lines if line.split()[0] in ("TABLE", "FAULT", "OVER")] == ["TABLE"]
+    assert [line.split()[0] for line in lines if line.split()[0] in ("TABLE", "FAULT", "OVER")] == [
+        "TABLE"
+    ]
 
 
 EMULATED = """
@@ -120,8 +126,18 @@ def test_an_execution_with_a_trap_counts_for_its_budget(tool: Tool, tmp_path: Pa
     made = make(tmp_path, EMULATED, 3000)
     budgets = tmp_path / "budgets.toml"
     begin, end = made.labels["begin"], made.labels["end"]
-    budgets.write_text(f'[[budget]]\nname = "it"\nthread = 0\nfrom = {begin}\nto = {end}\ncycles = 20\n')
-    words = (made.trace, "--setup", made.setup, "--budgets", budgets, "--flexpret", program(tmp_path))
+    budgets.write_text(
+        f'[[budget]]\nname = "it"\nthread = 0\nfrom = {begin}\nto = {end}\ncycles = 20\n'
+    )
+    words = (
+        made.trace,
+        "--setup",
+        made.setup,
+        "--budgets",
+        budgets,
+        "--flexpret",
+        program(tmp_path),
+    )
     lines = shown(tool, *words, status=1)
     assert "it 0 - - - - 12 - 20" in lines
     assert (
@@ -181,11 +197,18 @@ def test_cycles_narrow_what_is_looked_at(tool: Tool) -> None:
 
 
 def test_json(tool: Tool, tmp_path: Path) -> None:
-    ran = tool("fp_visits", *SUM, "--section", "visit=0x10:0x3c", "--json", "--flexpret", program(tmp_path))
+    ran = tool(
+        "fp_visits", *SUM, "--section", "visit=0x10:0x3c", "--json", "--flexpret", program(tmp_path)
+    )
     found = json.loads(ran.stdout)
     (thread,) = found["threads"]
     (section,) = thread["sections"]
-    assert (found["status"], thread["thread"], thread["events"], thread["breaks"]) == (0, 0, 201, [])
+    assert (found["status"], thread["thread"], thread["events"], thread["breaks"]) == (
+        0,
+        0,
+        201,
+        [],
+    )
     assert section["executions"] == {
         "number": 4,
         "shortest": 184,
@@ -199,7 +222,9 @@ def test_json(tool: Tool, tmp_path: Path) -> None:
 
 
 def test_csv(tool: Tool, tmp_path: Path) -> None:
-    ran = tool("fp_visits", *SUM, "--section", "visit=0x10:0x3c", "--csv", "--flexpret", program(tmp_path))
+    ran = tool(
+        "fp_visits", *SUM, "--section", "visit=0x10:0x3c", "--csv", "--flexpret", program(tmp_path)
+    )
     (row,) = csv.DictReader(ran.stdout.splitlines())
     assert (row["name"], row["executions"], row["longest"], row["bound"], row["ratio"]) == (
         "visit",
@@ -233,8 +258,14 @@ def test_functions_of_an_executable(tool: Tool, tmp_path: Path) -> None:
         flexpret,
     )
     lines = shown(tool, *words, status=2)
-    trap = "the execution from cycle 3988 didn't end: trap 3 breakpoint in cycle 3992 at 0x24 broken"
-    assert [it for it in lines if it.startswith("UNKNOWN")] == [lines[0]] == [f"UNKNOWN T0 broken: {trap}"]
+    trap = (
+        "the execution from cycle 3988 didn't end: trap 3 breakpoint in cycle 3992 at 0x24 broken"
+    )
+    assert (
+        [it for it in lines if it.startswith("UNKNOWN")]
+        == [lines[0]]
+        == [f"UNKNOWN T0 broken: {trap}"]
+    )
     assert "inner 111 12 12.0 12 8 12 1.00 -" in lines
     assert "outer 111 28 28.0 28 0 28 1.00 -" in lines
     assert not any(line.startswith("start ") for line in lines)

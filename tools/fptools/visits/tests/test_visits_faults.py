@@ -65,7 +65,13 @@ def test_nothing_is_read_behind_the_end(tool: Tool) -> None:
     ) as source:
         words = [sys.executable, str(TOOLS / "fp_visits"), "--to", "100000"]
         ran = subprocess.run(
-            words, stdin=source.stdout, capture_output=True, text=True, check=False, timeout=60, cwd=TOP
+            words,
+            stdin=source.stdout,
+            capture_output=True,
+            text=True,
+            check=False,
+            timeout=60,
+            cwd=TOP,
         )
         assert source.stdout is not None
         source.stdout.close()
@@ -76,14 +82,25 @@ def test_nothing_is_read_behind_the_end(tool: Tool) -> None:
 
 def test_a_trace_of_another_program(tool: Tool) -> None:
     ran = tool("fp_visits", "examples/drive.trace", "--setup", "examples/sum.toml", *VISIT)
-    text = "0x18: the trace has the word 0000a303, the image 00008193: the trace is of another program"
+    text = (
+        "0x18: the trace has the word 0000a303, the image 00008193: the trace is of another program"
+    )
     assert ran.returncode == 2
     assert text in ran.stderr
 
 
 def test_an_executable_of_which_the_image_isnt_made(tool: Tool) -> None:
     other = "tools/fptools/testing/calls.elf"
-    words = ("examples/c/pid.trace", "--setup", "examples/c/pid.toml", "--thread", 0, "--elf", other, "--no-bounds")
+    words = (
+        "examples/c/pid.trace",
+        "--setup",
+        "examples/c/pid.toml",
+        "--thread",
+        0,
+        "--elf",
+        other,
+        "--no-bounds",
+    )
     text = f"0x0 start: the image isn't made of {other}: make it again by `elf`"
     assert refused(tool, *words, "--section", "0x0:0x8") == text
     assert refused(tool, *words) == text
@@ -100,13 +117,23 @@ def test_a_trace_of_another_thread(tool: Tool, tmp_path: Path) -> None:
 @pytest.mark.parametrize("slots", ["T0 S S S S S S S", "T0 D D D D D D D", "T0 S D D D D D D"])
 def test_a_trace_with_other_slots_breaks_no_bound(tool: Tool, tmp_path: Path, slots: str) -> None:
     """The executions are longer than the bound, but that is no fault of the analyser."""
-    made = make(tmp_path, (TOP / "examples/sum.s").read_text(), 2000, slots, more=loop_table(0x24, 0x34, 7))
+    made = make(
+        tmp_path, (TOP / "examples/sum.s").read_text(), 2000, slots, more=loop_table(0x24, 0x34, 7)
+    )
     made.setup.write_text(
         made.setup.read_text().replace(
             ", ".join(f'"{it}"' for it in slots.split()), '"T0", "S", "S", "S", "D", "D", "D", "D"'
         )
     )
-    words = (made.trace, "--setup", made.setup, "--section", "0x10:0x3c", "--flexpret", program(tmp_path))
+    words = (
+        made.trace,
+        "--setup",
+        made.setup,
+        "--section",
+        "0x10:0x3c",
+        "--flexpret",
+        program(tmp_path),
+    )
     ran = tool("fp_visits", *words)
     assert ran.returncode == 2
     assert "by the setup's slots: the trace is of another thread or setup" in ran.stderr
@@ -219,7 +246,9 @@ def test_an_image_that_is_sought_elsewhere(tool: Tool, tmp_path: Path) -> None:
 def test_a_terminal_is_no_trace() -> None:
     ours, theirs = pty.openpty()
     words = [sys.executable, str(TOOLS / "fp_visits")]
-    ran = subprocess.run(words, stdin=theirs, capture_output=True, text=True, check=False, timeout=60)
+    ran = subprocess.run(
+        words, stdin=theirs, capture_output=True, text=True, check=False, timeout=60
+    )
     os.close(ours)
     os.close(theirs)
     text = "no trace: name a file, pipe one in, or run the setup by --cycles"
