@@ -186,13 +186,8 @@ def pipeline() -> Figure:
         what = "lost turn" if flushed else f"{shown[1][-2:]}  {texts[int(shown[1], 16) // 4]}"
         figure.text(10, top + 17, what, "s" if flushed else "m")
         for stage, letter in enumerate("FD" if flushed else "FDEMW"):
-            figure.labelled(
-                left + (row + stage) * wide,
-                top,
-                (wide, high - 4),
-                GREY if flushed else BLUE,
-                letter,
-            )
+            colour = GREY if flushed else BLUE
+            figure.labelled(left + (row + stage) * wide, top, (wide, high - 4), colour, letter)
 
     def centre(row: int, stage: int) -> tuple[float, float]:
         return left + (row + stage + 0.5) * wide, above + row * high + (high - 4) / 2

@@ -14,17 +14,8 @@ from model.images import DATA, Image, Segments
 from model.instructions import BRANCHES, CSR_OPS, IMMEDIATES, PRODUCTS, SHIFTS, Ins
 from model.ports import Counter, HeldPort, Ports, Wave
 from model.registers import (
-    DREGIONS,
-    IREGIONS,
-    MCAUSE,
-    MEPC,
-    MHARTID,
-    MODES,
-    MSCRATCH,
-    MTVEC,
-    PORT,
-    SLOTS,
-)
+    DREGIONS, IREGIONS, MCAUSE, MEPC, MHARTID, MODES, MSCRATCH, MTVEC, PORT, SLOTS,
+)  # fmt: skip
 from model.setups import LARGE, NO_SLOT, READ_ONLY, REGIONS, SHARED, SMALL, SOFT_SLOT, THREADS
 from model.setups import MODES as MODE_NAMES
 from model.setups import SLOTS as SLOT_NAMES
@@ -498,5 +489,4 @@ class World:
 def quoted(values: Sequence[int], names: dict[str, int]) -> str:
     """The list of the names of numbers, as setups write it."""
     name_of = {value: name for name, value in names.items()}
-    shown = [f'"{name_of[value]}"' for value in values]
-    return f"[{', '.join(shown)}]"
+    return "[" + ", ".join(f'"{name_of[it]}"' for it in values) + "]"

@@ -14,8 +14,8 @@ FILES = [
     for name in ("tools", "dev", "model", "examples", "rtl")
     for it in sorted((TOP / name).rglob("*.py"))
 ]
-LONG = {"tools/fptools/visits/visits.py"}
-"""Files that are longer."""
+LONG = {"tools/fptools/visits/visits.py", "dev/fuzz/hostile.py"}
+"""Files that are longer. That of dev is a table of inputs."""
 
 LONG_FUNCTIONS = {"tools/fptools/visits/tests/test_meters.py: executions"}
 """Functions that are longer: the definition of a visit, which is read in one place."""

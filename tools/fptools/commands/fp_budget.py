@@ -276,6 +276,17 @@ def image_of(asked: argparse.Namespace, setup: Setup, program: Program) -> Mappi
     return dict(program.words)
 
 
+def of_code(asked: argparse.Namespace, names: Names, cycles: int | None) -> list[Result]:
+    """The results for functions, or for a section between two labels."""
+    assume = frozenset(map(Assumption, asked.assume))
+    if asked.function:
+        budgets = (Budget(it, asked.thread, 0, 0, cycles, assume=assume) for it in asked.function)
+        return [names.function(it.name, it) for it in budgets]
+    start, end = asked.from_label, asked.to_label
+    name = f"{start} to {end}"
+    return [names.section(Budget(name, asked.thread, start, end, cycles, True, assume=assume))]
+
+
 def of_names(asked: argparse.Namespace) -> list[Result]:
     """The results from names alone."""
     setup, program = checked_setup(asked.setup), Program(asked.file)
@@ -289,7 +300,6 @@ def of_names(asked: argparse.Namespace) -> list[Result]:
             look_at_name(program, setup, asked.thread, option, name)
     image = image_of(asked, setup, program)
     cycles = asked.ns // setup.period if asked.ns is not None else asked.cycles
-    assume = frozenset(map(Assumption, asked.assume))
     flexpret, sources = Flexpret.named(asked.flexpret), Sources(asked.src)
     with tempfile.TemporaryDirectory() as folder:
         names = Names(flexpret, setup, image, program, sources, Path(folder), asked.path)
@@ -300,17 +310,8 @@ def of_names(asked: argparse.Namespace) -> list[Result]:
             found = [
                 it for budget in period_budgets(asked, cycles) for it in results_of(judge, budget)
             ]
-        elif not asked.function:
-            start, end = asked.from_label, asked.to_label
-            budget = Budget(
-                f"{start} to {end}", asked.thread, start, end, cycles, True, assume=assume
-            )
-            found = [names.section(budget)]
         else:
-            budgets = [
-                Budget(name, asked.thread, 0, 0, cycles, assume=assume) for name in asked.function
-            ]
-            found = [names.function(budget.name, budget) for budget in budgets]
+            found = of_code(asked, names, cycles)
     if asked.runs is None:
         return found
     from fptools.budget.runs import Runs

@@ -296,11 +296,8 @@ class Builder:
                     while ready and len(futures) < plan.at_once:
                         crate = ready.pop()
                         plan.running[crate] = time.monotonic()
-                        futures[
-                            pool.submit(
-                                self.prove, crate, plan.niceness(crate), plan.jobs(len(ready))
-                            )
-                        ] = crate
+                        how = (crate, plan.niceness(crate), plan.jobs(len(ready)))
+                        futures[pool.submit(self.prove, *how)] = crate
                     progress.show()
                     ended, _ = wait(
                         futures,

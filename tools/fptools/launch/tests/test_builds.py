@@ -163,17 +163,7 @@ def test_fp_plant_builds_its_program(checkout: Checkout) -> None:
     (checkout.folder / "examples").symlink_to(TOP / "examples")
 
     def called(**named: str) -> subprocess.CompletedProcess[str]:
-        words = (
-            "examples/loop/motor.toml",
-            "--thread",
-            "0",
-            "--every",
-            "100",
-            "--cycles",
-            "1000",
-            "--",
-            "true",
-        )
+        words = "examples/loop/motor.toml --thread 0 --every 100 --cycles 1000 -- true".split()
         environment = {**checkout.environment, "RT_PROGRAM": "#!/bin/sh\nexit 9\n", **named}
         environment.pop("LOOP_CLI", None)
         return subprocess.run(

@@ -236,19 +236,8 @@ def test_a_listing_is_compared_with_the_image_wherever_that_is_written(
 
     def call(name: str) -> str:
         """Standard output of a call that also writes a listing and a map."""
-        ran = checkout.run(
-            "--quiet",
-            "--use",
-            str(program),
-            "asm",
-            "x.s",
-            "-o",
-            name,
-            "--listing",
-            "l",
-            "--map",
-            "m",
-        )
+        words = f"asm x.s -o {name} --listing l --map m".split()
+        ran = checkout.run("--quiet", "--use", str(program), *words)
         assert (ran.returncode, ran.stderr) == (0, "")
         assert "a:" in (tmp_path / "l").read_text()
         assert (tmp_path / "m").read_text().endswith("\n00000000 1 a\n")
@@ -259,13 +248,8 @@ def test_a_listing_is_compared_with_the_image_wherever_that_is_written(
     with read(tmp_path / "pipe") as reader:
         assert call("pipe") == ""
         assert reader.communicate()[0] == image
-    assert [call("-"), call("/dev/stdout"), call("/dev/null"), call("x.fpx"), call("-x.fpx")] == [
-        image,
-        image,
-        "",
-        "",
-        "",
-    ]
+    written = [call(it) for it in ("-", "/dev/stdout", "/dev/null", "x.fpx", "-x.fpx")]
+    assert written == [image, image, "", "", ""]
     assert ((tmp_path / "x.fpx").read_text(), (tmp_path / "-x.fpx").read_text()) == (image, image)
 
 
