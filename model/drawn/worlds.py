@@ -13,6 +13,7 @@ from model.drawn.code import (
 from model.images import DATA, Image, Segments
 from model.instructions import BRANCHES, CSR_OPS, IMMEDIATES, PRODUCTS, SHIFTS, Ins
 from model.ports import Counter, HeldPort, Ports, Wave
+
 from model.registers import (
     DREGIONS, IREGIONS, MCAUSE, MEPC, MHARTID, MODES, MSCRATCH, MTVEC, PORT, SLOTS,
 )  # fmt: skip
