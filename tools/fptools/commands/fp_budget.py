@@ -295,8 +295,8 @@ def of_names(asked: argparse.Namespace) -> list[Result]:
         "--from-label": [asked.from_label],
         "--to-label": [asked.to_label],
     }
-    for option, names in options.items():
-        for name in filter(None, names):
+    for option, given in options.items():
+        for name in filter(None, given):
             look_at_name(program, setup, asked.thread, option, name)
     image = image_of(asked, setup, program)
     cycles = asked.ns // setup.period if asked.ns is not None else asked.cycles
