@@ -7,7 +7,7 @@ from functools import cached_property
 from pathlib import Path
 from typing import TYPE_CHECKING, Collection, Mapping, Sequence
 
-from fptools.program.answers import Bound, NoAnswer, Refusal, read_answer
+from fptools.program.answers import Bound, NoAnswer, Refusal
 from fptools.budget.files import Assumption, Budget, LoopFact, Result, Verdict
 from fptools.files.elf import Program, ProgramError, other_word
 from fptools.flow.inference import Inference, StatedLoop
@@ -190,7 +190,7 @@ class Judge:
         """The number that the program writes. The message of a refusal has its place and a remedy."""
         text = f"status {answer.status}: {answer.reason}"
         try:
-            found = read_answer(answer.text)
+            found = answer.read()
         except NoAnswer:
             raise Unknown(text) from None
         if isinstance(found, Bound):

@@ -5,7 +5,7 @@ from __future__ import annotations
 from dataclasses import dataclass, field
 from typing import Any, Iterable
 
-from fptools.program.answers import Bound, NoAnswer, read_answer
+from fptools.program.answers import Bound, NoAnswer
 from fptools.budget.files import Budget, LoopFact
 from fptools.budget.budgets import Asked, Judge, Unknown
 from fptools.files.image import write_image
@@ -169,7 +169,7 @@ class PathBounds:
         )
         text = f"status {asked.status}: {asked.reason}"
         try:
-            found = read_answer(asked.text)
+            found = asked.read()
         except NoAnswer:
             raise Unknown(text) from None
         if isinstance(found, Bound):

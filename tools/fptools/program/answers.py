@@ -13,7 +13,7 @@ from __future__ import annotations
 import re
 from dataclasses import dataclass
 
-BOUND = re.compile(r"bound (\d+)")
+BOUND = re.compile(r"bound ([0-9]+)")
 REFUSAL = re.compile(r"refused (setup|section|image|source|bound|routines) (\d+) (\w+)(?: (\S+))?")
 OF_LINES = ("source", "routines")  # their refusals have the line, the code and the name
 

@@ -8,7 +8,7 @@ from dataclasses import dataclass, field
 from pathlib import Path
 
 from fptools.checkout import TOP
-from fptools.program.answers import Bound, NoAnswer, read_answer
+from fptools.program.answers import Bound, NoAnswer, Refusal, read_answer
 
 BESIDE = TOP / "flexpret"
 HELP = "the program; if left out, what the variable FLEXPRET names, or the ./flexpret of this repository"
@@ -32,11 +32,18 @@ class Answer:
         """Why there is no number: the refusal; where there is none, what standard error says."""
         return self.text or self.errors
 
+    def read(self) -> Bound | Refusal:
+        """The bound or the refusal. A bound of a program that failed is a `NoAnswer`."""
+        found = read_answer(self.text)
+        if isinstance(found, Bound) and self.status:
+            raise NoAnswer(f"a bound with status {self.status}")
+        return found
+
     @property
     def bound(self) -> int | None:
         """The cycles of a bound; None for a refusal, or another text."""
         try:
-            found = read_answer(self.text)
+            found = self.read()
         except NoAnswer:
             return None
         return found.cycles if isinstance(found, Bound) else None

@@ -197,9 +197,8 @@ class Looked:
         depth = Depth(own.bytes + sum(it.bytes for it in handlers), steps)
         if not self.handlers:
             notes.append(WITHOUT_TRAPS)
-        pointers = Pointers(
-            self.code, self.all, self.functions.done, self.handlers.values(), constants
-        )
+        own_handlers = self.handlers.values()
+        pointers = Pointers(self.code, self.all, self.functions.done, own_handlers, constants)
         return Deepest(top, depth, tuple(self._uses()), tuple(notes), tuple(pointers.stores()))
 
     def _main_depth(self) -> tuple[int, Depth]:
