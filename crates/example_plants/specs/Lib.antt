@@ -7,4 +7,4 @@ pub mod PlantLaws
 pub mod Known
 pub mod ListedPlants
 pub use Rattle.loop_runs.specs.Plants
-pub use Rattle.loop_words.specs.Plants as ListedWords
+pub use Rattle.loop_words.specs.Plants
