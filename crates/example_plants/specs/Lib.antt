@@ -4,7 +4,3 @@ pub mod Motion
 pub mod Tables
 pub mod Recordings
 pub mod PlantLaws
-pub mod Known
-pub mod ListedPlants
-pub use Rattle.loop_runs.specs.Plants
-pub use Rattle.loop_words.specs.Plants

@@ -54,9 +54,8 @@ class PlantRun:
 
     def words(self, plants: Path) -> list[str]:
         """The call of the program with a list of plants."""
-        numbers = {"thread": self.thread, "every": self.every, "cycles": self.cycles}
-        options = [text for name, value in numbers.items() for text in (f"--{name}", str(value))]
-        return [self.program, self.setup, "--plants", str(plants), *options]
+        numbers = map(str, (self.thread, self.every, self.cycles))
+        return [self.program, self.setup, str(plants), *numbers]
 
 
 @dataclass

@@ -1,5 +1,12 @@
-use Rattle.std.proofs.Common.{◌≡◌, ◌+◌, vec_len}
+use Rattle.std.proofs.Common.{◌≡◌, ◌≤◌, ◌-◌, vec_len}
 use Rattle.loop_cli.proofs.piped.run_piped.Given as goal
 
-abbrev pub invariant-loop-listed : goal.invariant-loop-listed
-invariant-loop-listed g l = vec_len l.plants + vec_len l.listed ≡ 8
+abbrev pub invariant-loop-machine : goal.invariant-loop-machine
+invariant-loop-machine g l = record {
+  within : l.machine.at ≤ l.question.cycles;
+  ports : vec_len l.ports ≡ 8;
+  plants : vec_len l.plants ≡ 8;
+}
+
+abbrev pub decreases-loop-machine : goal.decreases-loop-machine
+decreases-loop-machine g l = l.question.cycles - l.machine.at
