@@ -117,7 +117,7 @@ def checks(jobs: int) -> list[Part]:
             jobs,
             ["elftools", "jsonschema", "networkx", "hypothesis"],
         ),
-        pytest("model", "model", 1),
+        pytest("model", "model", 1, ["hypothesis"]),
     ]
 
 
