@@ -133,23 +133,26 @@ class Head:
             return High(base, (symbol.offset * LOW + rounds) % TWICE)
         return replace(symbol, offset=(symbol.offset + rounds) % LOW)
 
-    def correct(self, now: State, entered: Sequence[State], backs: Sequence[State]) -> None:
-        """Makes guesses anew that some round doesn't keep."""
+    def correct(self, now: State, entered: Sequence[State], backs: Sequence[State]) -> bool:
+        """Makes guesses anew that some round doesn't keep. Answers whether there is one."""
         first = self.entered_with(entered)
-        for key in now.keys:
-            guess = self.guesses.get(key)
-            if not isinstance(guess, Adds):
-                continue
-            onward = self._onward(now.value(key))
-            for back in backs:
-                if isinstance(key, tuple) and key[0] not in back.memory:
-                    continue
-                if joined_value(onward, Facts(), back.value(key), back.facts) != onward:
-                    del self.guesses[key]
+        wrong = [key for key in now.keys if not self._is_kept(key, now, backs)]
+        for key in wrong:
+            guess = self.guesses.pop(key)
+            for back in (it for it in backs if _has(it, key)):
+                if key not in self.guesses:
                     self._look_at(key, first, back)
-                    if self.guesses.get(key) == guess:
-                        self.guesses[key] = ANY  # some round doesn't keep it
-                    break
+            if self.guesses.get(key) == guess:
+                self.guesses[key] = ANY
+        return bool(wrong)
+
+    def _is_kept(self, key: Key, now: State, backs: Sequence[State]) -> bool:
+        """Whether each round brings back what a guess says of the next one."""
+        if not isinstance(self.guesses.get(key), Adds):
+            return True
+        onward = self._onward(now.value(key))
+        kept = (it for it in backs if _has(it, key))
+        return all(joined_value(onward, Facts(), it.value(key), it.facts) == onward for it in kept)
 
     def _onward(self, value: Known) -> Known:
         """A value one round later."""
@@ -157,6 +160,11 @@ class Head:
         if isinstance(value, High):
             return replace(value, added=value.added.counted(self.counter, later) % TWICE)
         return replace(value, offset=value.offset.counted(self.counter, later) % LOW)
+
+
+def _has(state: State, key: Key) -> bool:
+    """Whether a value is known of a state: that of a word of memory may not be."""
+    return not isinstance(key, tuple) or key[0] in state.memory
 
 
 def _adds(distance: Sum, modulus: int, is_high: bool = False) -> Adds | None:

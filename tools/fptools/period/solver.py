@@ -108,14 +108,17 @@ class Solver:
 
     def _corrected(self) -> bool:
         """Looks at the loops once more, where nothing changes any more: at what all rounds bring
-        back. Answers whether anything is to do."""
+        back. Answers whether anything is to do. A guess that was made anew is looked at again, also
+        where it is as before."""
         for place, head in self.heads.items():
             entered, backs = self._edges(place)
             if place not in self.before or not backs or not entered:
                 continue
             self._entered[place], self._old[place] = entered, set()
-            head.correct(self.before[place], entered, [*backs.values()])
-            if self._met(place) != self.before[place]:
+            guesses = {**head.guesses}
+            is_wrong = head.correct(self.before[place], entered, [*backs.values()])
+            is_other = self._met(place) != self.before[place]
+            if is_wrong or is_other or head.guesses != guesses:
                 self._push(place)
         return bool(self._heap)
 
