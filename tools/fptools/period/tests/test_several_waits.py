@@ -163,3 +163,14 @@ def test_a_store_in_a_range(ask: Case, at: int) -> None:
     found = ask(f"{FIRST}{first}head: nop\n{work}here: wu x11, x10\nj head\n")
     assert found.status == 0, found
     assert ("moments 2000 ns apart" in found.text) == (at == 0x2000_0000)
+
+
+@pytest.mark.parametrize("first", ["bnez", "beqz"])
+def test_a_round_that_takes_the_first_moment_again(ask: Case, first: str) -> None:
+    """Each round begins anew with the moment of the wait: what it adds isn't added up, though a
+    round without it brings back the value that the loop is entered with."""
+    before, again = "mv x21, x10\nmv x22, x11\n", "mv x10, x21\nmv x11, x22\n"
+    ends = f"in: beqz x20, out\naddi x20, x20, -1\n{again}{LOADS}{first} x16, in\n{NEXT}j in\n"
+    source = f"{FIRST}{TIME}head: {before}li x20, 3\n{ends}out: wu x11, x10\nj head\n"
+    found = ask(source, ns=6000, at="out")
+    assert "moments 6000 ns apart" in found.text, found  # it is assumed, and not shown
