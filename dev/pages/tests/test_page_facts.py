@@ -12,6 +12,8 @@ from typing import Any
 
 import pytest
 from dev.gate.parts import parts
+from fptools.budget import files
+from fptools.files import lint
 from fptools.testing.common import TOP, document
 
 
@@ -157,14 +159,15 @@ def keys_of(schema: dict[str, Any]) -> set[str]:
 
 
 @pytest.mark.parametrize(
-    "heading, schema, more", [("## Setups", "setup", set()), ("## Budgets", "budgets", {"budget"})]
+    "heading, schema, more",
+    [("## Setups", lint.SCHEMA, set()), ("## Budgets", files.SCHEMA, {"budget"})],
 )
 def test_the_keys_of_files_are_those_of_their_schema(
-    heading: str, schema: str, more: set[str]
+    heading: str, schema: Path, more: set[str]
 ) -> None:
     rows = rows_under(TOP / "docs/FORMATS.md", heading)
     shown = {key for row in rows for key in re.findall(r"`(\w+)`", row)} | more
-    assert shown == keys_of(json.loads((TOP / f"tools/{schema}.schema.json").read_text()))
+    assert shown == keys_of(json.loads(schema.read_text()))
 
 
 def test_each_tool_has_a_row() -> None:
