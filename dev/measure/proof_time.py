@@ -107,7 +107,7 @@ def main() -> int:
     parser = argparse.ArgumentParser(description=__doc__)
     parser.add_argument("crates", nargs="*", help="the crates (left out: all libraries)")
     parser.add_argument(
-        "--most", type=int, default=12, help="how many functions of a crate are told"
+        "--most", type=int, default=12, help="how many functions of a crate are shown"
     )
     parser.add_argument("--scratch", help="where the copy is made, and stays for the next call")
     given = parser.parse_args()

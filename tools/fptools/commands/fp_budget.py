@@ -33,7 +33,7 @@ BUDGETS is a TOML file of tables:
     to = "step_end"
     cycles = 400              # or ns = 4000
     calls = true              # left out: false. It calls functions of the executable
-    exits = ["stopped0"]      # left out: none. Other addresses at which it may end
+    exits = ["stopped0"]      # left out: none. Other addresses where it may end
     assume = ["no traps"]     # left out: nothing. What the result takes for granted, unchecked
 
     [[budget]]
@@ -60,7 +60,7 @@ A budget holds only if nothing stands against it that is known here. It is unkno
   - a source isn't the one that the executable was built from: by the checksums of sources and headers that it carries
     in the section .fp_sources, where the Makefile of examples/c built it; without a checksum, if the source is newer
     ("same sources" assumes that its lines are the same);
-  - the thread's stack doesn't fit, as fp_stack has it, or nothing tells that it does ("stack fits" assumes it then).
+  - the thread's stack doesn't fit, as fp_stack has it, or nothing shows that it does ("stack fits" assumes it then).
 
 With --path each bound has the path that costs it: its cycles by function and source line, and the rounds of its loops. The
 tool finds the path without the program. It shows none where the two numbers differ.
