@@ -54,11 +54,11 @@ said-text Is status before bytes empty zero h = go h.answer h.is h.said
         subst (λ (xs : List ℕ). Is (Says 0 xs)) same (subst (λ k. Is (Says k text)) none is)
     go Missing is said = absurd said
 
-pub traced : {F K P : Type 0} (told : Option FileMap) (words : List (List ℕ))
+pub traced : {F K P : Type 0} (contents : Option FileMap) (words : List (List ℕ))
     (before after : State F K P) (status : ℕ) →
-    IfSome told (λ files. KnownOutcome files (ask words) before after status) →
+    IfSome contents (λ files. KnownOutcome files (ask words) before after status) →
     (first bytes : List ℕ) → first ≡ [] → before.written ≡ Some first →
-    after.written ≡ Some bytes → status ≡ 0 → IsTraceBeside told words before.rows bytes
+    after.written ≡ Some bytes → status ≡ 0 → IsTraceBeside contents words before.rows bytes
 traced None words before after status known first bytes empty was is zero =
     record { answer = tt; text_of = tt }
 traced (Some files) words before after status known first bytes empty was is zero =

@@ -72,11 +72,11 @@ pub record Theorems : Type 0 where
   pub sections : LongestWhileScheduled
   pub calls : LongestByCallsWhileScheduled
 
-pub bounded : {F K P : Type 0} (t : Theorems) (told : Option FileMap) (words : List (List ℕ))
+pub bounded : {F K P : Type 0} (t : Theorems) (contents : Option FileMap) (words : List (List ℕ))
     (before after : State F K P) (status : ℕ) →
-    IfSome told (λ files. KnownOutcome files (ask words) before after status) →
+    IfSome contents (λ files. KnownOutcome files (ask words) before after status) →
     (first bytes : List ℕ) → first ≡ [] → before.written ≡ Some first →
-    after.written ≡ Some bytes → status ≡ 0 → IsBoundBeside told words bytes
+    after.written ≡ Some bytes → status ≡ 0 → IsBoundBeside contents words bytes
 bounded t None words before after status known first bytes empty was is zero =
     record { of_section = tt; of_calls = tt }
 bounded t (Some files) words before after status known first bytes empty was is zero =

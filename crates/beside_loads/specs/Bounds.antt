@@ -16,7 +16,7 @@ use Rattle.flexpret_top.specs.Routine.{Routine}
 use Rattle.flexpret_top.specs.RoutinesFile.{routines_of}
 use Rattle.flexpret_top.specs.Section.{Section}
 use Rattle.flexpret_top.specs.Settings.{size_of}
-use Rattle.flexpret_top.specs.SetupInSettings.{HasSameWords, HasSameWordsOfParts}
+use Rattle.flexpret_top.specs.SetupInSettings.{HasSameWords, HasSameWordsOfFunctions}
 use Rattle.flexpret_top.specs.SetupInSettings.{KeepsScheduling, StartsHard}
 use Rattle.flexpret_top.specs.SetupVisitBound.{issues}
 use Rattle.flexpret_top.specs.TraceLaws.{Machine}
@@ -54,7 +54,7 @@ pub record BoundsCallsBeside (p : Program) (i : ℕ) (section : Section) (file b
   pub listed : routines_of (size_of p.setup.version) file ≡ Ok routines
   pub beside : (files : FileMap) (name : List ℕ) (q : Program) (ports : List (Option Row)) (n : ℕ) →
       IsLoad p i files name q ports n →
-      HasSameWordsOfParts (machine_of q ports) (calls (section_listing p section routines)) →
+      HasSameWordsOfFunctions (machine_of q ports) (calls (section_listing p section routines)) →
       (last : Issued) (earlier : List Issued) →
       IsCallVisit (calls (section_listing p section routines))
       (issues (machine_of q ports) i n) last earlier →
@@ -64,12 +64,12 @@ pub record BoundsCallsBeside (p : Program) (i : ℕ) (section : Section) (file b
 
 -- If the arguments request the bound of a section, or of one with routines, the bytes bound it
 -- beside any load.
-pub record IsBoundBeside (told : Option FileMap) (words : List (List ℕ)) (bytes : List ℕ) :
+pub record IsBoundBeside (contents : Option FileMap) (words : List (List ℕ)) (bytes : List ℕ) :
     Type 0 where
-  pub of_section : IfSome told (λ files. (setup : List ℕ) (i : ℕ) (section : Section)
+  pub of_section : IfSome contents (λ files. (setup : List ℕ) (i : ℕ) (section : Section)
       (p : Program) → ask words ≡ Some (Bound setup i section) → program files setup ≡ Ok p →
       BoundsBeside p i section bytes)
-  pub of_calls : IfSome told (λ files. (setup : List ℕ) (i : ℕ) (section : Section)
+  pub of_calls : IfSome contents (λ files. (setup : List ℕ) (i : ℕ) (section : Section)
       (routines file : List ℕ) (p : Program) → ask words ≡ Some (Calls setup i section routines) →
       program files setup ≡ Ok p → files routines ≡ Some file →
       BoundsCallsBeside p i section file bytes)

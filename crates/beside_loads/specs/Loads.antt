@@ -30,10 +30,11 @@ pub record IsProtected (files : FileMap) (ports : List (Option Row)) (setup : Li
 -- The bytes are the text of the command, with status 0. If the arguments request the trace of a
 -- thread that is protected from the load, they are the text of the definition of one thread over
 -- its view.
-pub record IsTraceBeside (told : Option FileMap) (words : List (List ℕ)) (ports : List (Option Row))
+pub record IsTraceBeside (contents : Option FileMap) (words : List (List ℕ)) (ports : List
+    (Option Row))
     (bytes : List ℕ) : Type 0 where
-  pub answer : IfSome told (λ files. IsAnswer words files ports (Says 0 bytes))
-  pub text_of : IfSome told (λ files. (setup : List ℕ) (i n : ℕ) (v : View) → ask words
+  pub answer : IfSome contents (λ files. IsAnswer words files ports (Says 0 bytes))
+  pub text_of : IfSome contents (λ files. (setup : List ℕ) (i n : ℕ) (v : View) → ask words
       ≡ Some (Run setup i n) → IsProtected files ports setup i n v → bytes ≡ text (solo v n))
 
 -- The result is whether the commands write the same bytes with both loads. So it is true if a

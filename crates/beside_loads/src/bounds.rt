@@ -19,7 +19,7 @@ fn write_bound<F: Files>(
     requires eight { vec_len ports.old ≡ 8 }
     requires empty { out.old.bytes ≡ [] }
     ensures { result ≡ 0 →
-        IsBoundBeside (F.told files.old) (map string_bytes words.now) out.new.bytes }
+        IsBoundBeside (F.contents files.old) (map string_bytes words.now) out.new.bytes }
 {
     programs_keep_rules();
     bounds_while_scheduled();
@@ -40,7 +40,7 @@ pub fn bound_beside<F: Files>(
     room: usize,
 ) -> Result<MemSink, NoTrace>
     requires { vec_len ports.old ≡ 8 }
-    ensures { IfOk result (λ line. IsBoundBeside (F.told files.old) (map string_bytes words.now)
+    ensures { IfOk result (λ line. IsBoundBeside (F.contents files.old) (map string_bytes words.now)
         line.bytes) }
 {
     let mut out = MemSink::new(alloc, room)?;

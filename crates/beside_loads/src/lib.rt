@@ -43,7 +43,7 @@ fn write_trace<F: Files>(
 ) -> u8
     requires eight { vec_len ports.old ≡ 8 }
     requires empty { out.old.bytes ≡ [] }
-    ensures { result ≡ 0 → IsTraceBeside (F.told files.old) (map string_bytes words.now)
+    ensures { result ≡ 0 → IsTraceBeside (F.contents files.old) (map string_bytes words.now)
         (rows_of latched word_at ports.old.items) out.new.bytes }
 {
     flexpret(alloc, words, files, out, ports)
@@ -63,7 +63,8 @@ pub fn trace_beside<F: Files>(
     room: usize,
 ) -> Result<MemSink, NoTrace>
     requires { vec_len ports.old ≡ 8 }
-    ensures { IfOk result (λ trace. IsTraceBeside (F.told files.old) (map string_bytes words.now)
+    ensures { IfOk result (λ trace. IsTraceBeside (F.contents files.old)
+        (map string_bytes words.now)
         (rows_of latched word_at ports.old.items) trace.bytes) }
 {
     let mut out = MemSink::new(alloc, room)?;
@@ -99,7 +100,7 @@ pub fn is_same_beside<F: Files>(
 ) -> Result<bool, NoTrace>
     requires one { vec_len ports_of_one.old ≡ 8 }
     requires other { vec_len ports_of_other.old ≡ 8 }
-    ensures { IfOk result (λ same. IsSameBeside (F.told one.old) (F.told other.old)
+    ensures { IfOk result (λ same. IsSameBeside (F.contents one.old) (F.contents other.old)
         (map string_bytes words.now) (rows_of latched word_at ports_of_one.old.items)
         (rows_of latched word_at ports_of_other.old.items) same) }
 {

@@ -14,9 +14,10 @@ use Rattle.bound_calc.proofs.Entries.{larger-left, larger-right, larger-from}
 ≤-step : (a b c : ℕ) → a ≤ b → b ≤ c → a ≤ c
 ≤-step a b c h h' = omega arith
 
-pub advance-start : (row : List (Option ℕ)) (hops : List (Option Hop)) (old : List (Option ℕ)) →
+pub join_advanced-start : (row : List (Option ℕ)) (hops : List (Option Hop)) (old : List (Option ℕ))
+    →
     IsAdvanced row hops 0 old old
-advance-start row hops old = record {
+join_advanced-start row hops old = record {
   count = refl;
   kept = λ q c e. (c, e, omega arith);
   there = λ r x d q lt a h. absurd (omega arith);
@@ -24,11 +25,11 @@ advance-start row hops old = record {
 }
 
 -- no sum to add
-advance-same : (row : List (Option ℕ)) (hops : List (Option Hop))
+join_advanced-same : (row : List (Option ℕ)) (hops : List (Option Hop))
     (n : ℕ) (old mid : List (Option ℕ)) →
     ((x d q : ℕ) → slice_index_or row n None ≡ Some x → Hops hops n d q → ⊥) →
     IsAdvanced row hops n old mid → IsAdvanced row hops (n + 1) old mid
-advance-same row hops n old mid none a = record {
+join_advanced-same row hops n old mid none a = record {
   count = a.count;
   kept = a.kept;
   there = λ r x d q lt is h. there r x d q is h (let z : (r < n) ⊎ (r ≡ n) = grind arith in z);
@@ -47,12 +48,12 @@ advance-same row hops n old mid none a = record {
         (ap (λ k. slice_index_or hops k None) (sym same) ∙ h))
 
 -- one sum added
-advance-one : (row : List (Option ℕ)) (hops : List (Option Hop)) (n x : ℕ)
+join_advanced-one : (row : List (Option ℕ)) (hops : List (Option Hop)) (n x : ℕ)
     (h : Hop) (old mid : List (Option ℕ)) → slice_index_or row n None ≡ Some x →
     slice_index_or hops n None ≡ Some h → h.position < length mid → IsAdvanced row hops n old mid →
     IsAdvanced row hops (n + 1) old (slice_set mid h.position
     (larger_of (slice_index_or mid h.position None) (Some (min (x + h.cost) ceiling))))
-advance-one row hops n x h old mid is hop position a = record {
+join_advanced-one row hops n x h old mid is hop position a = record {
   count =
       length-set mid h.position
       (larger_of (slice_index_or mid h.position None) (Some (min (x + h.cost) ceiling))) ∙ a.count;
@@ -141,23 +142,24 @@ advance-one row hops n x h old mid is hop position a = record {
           | inr y ↦ inr (y.0, y.1, y.2, omega (arith, y.3), y.4, y.5, y.6)
         ]
 
-pub advance-more : (row : List (Option ℕ)) (hops : List (Option Hop)) (n : ℕ)
+pub join_advanced-more : (row : List (Option ℕ)) (hops : List (Option Hop)) (n : ℕ)
     (old mid : List (Option ℕ)) → ((p d q : ℕ) → Hops hops p d q → q < 8) →
     ((h : Hop) → slice_index_or hops n None ≡ Some h → length mid ≡ 8) →
     IsAdvanced row hops n old mid → IsAdvanced row hops (n + 1) old
     (raised (slice_index_or row n None) (slice_index_or hops n None) mid)
-advance-more row hops n old mid positions long a =
+join_advanced-more row hops n old mid positions long a =
     go (slice_index_or row n None) (slice_index_or hops n None) refl refl
   where
     go : (sum : Option ℕ) (hop : Option Hop) → slice_index_or row n None ≡ sum →
         slice_index_or hops n None ≡ hop → IsAdvanced row hops (n + 1) old (raised sum hop mid)
     go None hop is at =
-        advance-same row hops n old mid (λ x d q z h. let k : None ≡ Some x = sym is ∙ z in cc) a
+        join_advanced-same row hops n old mid (λ x d q z h. let k : None ≡ Some x = sym is
+        ∙ z in cc) a
     go (Some x) None is at =
-        advance-same row hops n old mid
+        join_advanced-same row hops n old mid
         (λ y d q z h. let k : None ≡ Some (record { cost = d; position = q }) = sym at ∙ h in cc) a
     go (Some x) (Some h) is at =
-        advance-one row hops n x h old mid is at
+        join_advanced-one row hops n x h old mid is at
         (let p = positions n h.cost h.position at in let count = long h at in omega arith) a
 
 -- the row of a matrix

@@ -15,7 +15,7 @@ use Rattle.bound_calc.proofs.Sections.{net-nested, whole-part}
 use Rattle.bound_calc.specs.Context.{body}
 use Rattle.bound_calc.specs.Limit.{Shallow, room}
 use Rattle.bound_calc.specs.Section.{IsAccepted, IsModest, field, net, whole}
-use Rattle.bound_calc.specs.Ways.{Reaches, Round, Rounds}
+use Rattle.bound_calc.specs.PathCosts.{Reaches, Round, Rounds}
 use Rattle.fp_setup.specs.declared.loop_list.LoopSetup.{LoopSetup}
 use Rattle.region_tree.specs.Graph.{Inside}
 use Rattle.region_tree.specs.Nesting.{around, depth}

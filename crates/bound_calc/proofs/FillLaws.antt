@@ -15,10 +15,10 @@ use Rattle.bound_calc.specs.Best.{IsBest}
 use Rattle.bound_calc.specs.Context.{Net, Scope, Walk, body}
 use Rattle.bound_calc.specs.Context.Walk.{start, step}
 use Rattle.bound_calc.specs.Matrices.{entry}
-use Rattle.bound_calc.specs.Propagation.{IsFilled, IsPowers, IsReady, Powers, AreWays}
-use Rattle.bound_calc.specs.Propagation.{over, index, power_at, walks, WaysOn}
+use Rattle.bound_calc.specs.Propagation.{IsFilled, IsPowers, IsReady, Powers, AreWordCosts}
+use Rattle.bound_calc.specs.Propagation.{over, index, power_at, walks, CostsOn}
 use Rattle.bound_calc.specs.Section.{IsModest, net, whole}
-use Rattle.bound_calc.specs.Ways.{Rounds}
+use Rattle.bound_calc.specs.PathCosts.{Rounds}
 use Rattle.bound_calc.proofs.Accepted.{accepted, modest}
 use Rattle.bound_calc.proofs.Embed.{body-part, is_or_not, same_head}
 use Rattle.bound_calc.proofs.PassLaws.{over-nested}
@@ -39,11 +39,12 @@ head-index t is j h =
     (record { low = o.0; high = omega arith })
 
 -- for the part of the loop whose head is at index k
-powers-body : (t : Tree) (o : Positions) (ways : WaysOn) (j : LoopSetup) (k : ℕ) (powers : Powers) →
+powers-body : (t : Tree) (o : Positions) (word_costs : CostsOn) (j : LoopSetup) (k : ℕ)
+    (powers : Powers) →
     IsTree t → Contains t.loops j → address t k ≡ j.head →
-    IsFilled (over t o ways) t (k + 1) powers →
-    IsPowers (over t o ways) t (body (net (over t o ways)) j) powers
-powers-body t o ways j k powers is known head f = record {
+    IsFilled (over t o word_costs) t (k + 1) powers →
+    IsPowers (over t o word_costs) t (body (net (over t o word_costs)) j) powers
+powers-body t o word_costs j k powers is known head f = record {
   some =
       λ i inner r.
       f.some i inner.0 (let e = head-index t is i inner.0 in let y = inner.1.0 in omega arith) r;
@@ -67,21 +68,22 @@ powers-body t o ways j k powers is known head f = record {
         go (inr (inl inside)) = (i, (known_i, inside), e, r)
         go (inr (inr outside)) = absurd (omega (arith, outside.0))
 
-powers-whole : (t : Tree) (o : Positions) (ways : WaysOn) (powers : Powers) →
-    IsFilled (over t o ways) t 0 powers → IsPowers (over t o ways) t (whole (over t o ways)) powers
-powers-whole t o ways powers f = record {
+powers-whole : (t : Tree) (o : Positions) (word_costs : CostsOn) (powers : Powers) →
+    IsFilled (over t o word_costs) t 0 powers → IsPowers (over t o word_costs) t (whole (over t o
+    word_costs)) powers
+powers-whole t o word_costs powers f = record {
   some = λ i known r. f.some i known (omega arith) r;
   only = λ w m lo hi e. (f.only w m e).1;
 }
 
 -- a loop's power put at its head
-pub filled-more : (t : Tree) (o : Positions) (ways : WaysOn) (j : LoopSetup) (k : ℕ)
-    (powers : Powers) (b : Box Matrix Global) (m : Matrix) → IsTree t → AreWays o ways →
+pub filled-more : (t : Tree) (o : Positions) (word_costs : CostsOn) (j : LoopSetup) (k : ℕ)
+    (powers : Powers) (b : Box Matrix Global) (m : Matrix) → IsTree t → AreWordCosts o word_costs →
     Contains t.loops j → address t k ≡ j.head → Reachable (graph t) (address t k) →
-    k < length t.words → IsFilled (over t o ways) t (k + 1) powers →
-    b.value ≡ m → IsBest (entry m) (Rounds (net (over t o ways)) j j.limit) →
-    IsFilled (over t o ways) t k (slice_set powers k (Some b))
-filled-more t o ways j k powers b m is are known head r within f boxed best = record {
+    k < length t.words → IsFilled (over t o word_costs) t (k + 1) powers →
+    b.value ≡ m → IsBest (entry m) (Rounds (net (over t o word_costs)) j j.limit) →
+    IsFilled (over t o word_costs) t k (slice_set powers k (Some b))
+filled-more t o word_costs j k powers b m is are known head r within f boxed best = record {
   count = length-set powers k (Some b) ∙ f.count;
   some = λ i known_i le ri. some i known_i le ri (is_or_not (index t i.head) k);
   only = λ w n e. only w n e (is_or_not w k);
@@ -100,14 +102,16 @@ filled-more t o ways j k powers b m is are known head r within f boxed best = re
     some : (i : LoopSetup) → Contains t.loops i → k ≤ index t i.head →
         Reachable (graph t) i.head → (index t i.head ≡ k) ⊎ (index t i.head ≢ k) →
         (n : Matrix) × (power_at (slice_set powers k (Some b)) (index t i.head) ≡ Some n)
-        × IsBest (entry n) (Rounds (net (over t o ways)) i i.limit)
+        × IsBest (entry n) (Rounds (net (over t o word_costs)) i i.limit)
     some i known_i le ri (inl e) =
         let heads : j.head ≡ i.head =
         sym head ∙ (ap (address t) (sym e) ∙ head-index t is i known_i) in
-        let same : j ≡ i = same_head (over-nested t o ways is are) j i known known_i heads in (
+        let nested = over-nested t o word_costs is are in
+        let same : j ≡ i = same_head nested j i known known_i heads in (
           m,
           ap (power_at (slice_set powers k (Some b))) e ∙ put,
-          subst (λ (i : LoopSetup). IsBest (entry m) (Rounds (net (over t o ways)) i i.limit)) same
+          subst (λ (i : LoopSetup). IsBest (entry m) (Rounds (net (over t o word_costs)) i
+              i.limit)) same
               best,
         )
     some i known_i le ri (inr ne) =
@@ -128,11 +132,12 @@ filled-more t o ways j k powers b m is are known head r within f boxed best = re
     only w n e (inr ne) = let y = f.only w n (sym (other w ne) ∙ e) in (omega (arith, y.0), y.1)
 
 -- no loop has its head there
-pub filled-same : (t : Tree) (o : Positions) (ways : WaysOn) (k : ℕ) (powers : Powers) → IsTree t →
+pub filled-same : (t : Tree) (o : Positions) (word_costs : CostsOn) (k : ℕ) (powers : Powers)
+    → IsTree t →
     ((j : LoopSetup) → Contains t.loops j → address t k ≡ j.head →
-    Reachable (graph t) (address t k) → ⊥) → IsFilled (over t o ways) t (k + 1) powers →
-    IsFilled (over t o ways) t k powers
-filled-same t o ways k powers is none f = record {
+    Reachable (graph t) (address t k) → ⊥) → IsFilled (over t o word_costs) t (k + 1) powers →
+    IsFilled (over t o word_costs) t k powers
+filled-same t o word_costs k powers is none f = record {
   count = f.count;
   some = λ i known le r. go i known le r (is_or_not (index t i.head) k);
   only = λ w n e. let y = f.only w n e in (omega (arith, y.0), y.1);
@@ -141,17 +146,17 @@ filled-same t o ways k powers is none f = record {
     go : (i : LoopSetup) → Contains t.loops i → k ≤ index t i.head →
         Reachable (graph t) i.head → (index t i.head ≡ k) ⊎ (index t i.head ≢ k) →
         (n : Matrix) × (power_at powers (index t i.head) ≡ Some n)
-        × IsBest (entry n) (Rounds (net (over t o ways)) i i.limit)
+        × IsBest (entry n) (Rounds (net (over t o word_costs)) i i.limit)
     go i known le r (inl e) =
         let head : address t k ≡ i.head = ap (address t) (sym e) ∙ head-index t is i known in
         absurd (none i known head (subst (λ v. Reachable (graph t) v) (sym head) r))
     go i known le r (inr ne) = f.some i known (omega arith) r
 
 -- no head of a loop is skipped
-pub filled-down : (t : Tree) (o : Positions) (ways : WaysOn) (k n : ℕ) (powers : Powers) →
+pub filled-down : (t : Tree) (o : Positions) (word_costs : CostsOn) (k n : ℕ) (powers : Powers) →
     k < n → ((j : LoopSetup) → Contains t.loops j → j.head < address t n → index t j.head ≤ k) →
-    IsFilled (over t o ways) t n powers → IsFilled (over t o ways) t (k + 1) powers
-filled-down t o ways k n powers lt next f = record {
+    IsFilled (over t o word_costs) t n powers → IsFilled (over t o word_costs) t (k + 1) powers
+filled-down t o word_costs k n powers lt next f = record {
   count = f.count;
   some =
       λ j known le r. f.some j known (above j known le
@@ -175,40 +180,41 @@ modest-over t o is frame = let m = modest t 0 0 is in record {
   order = m.order;
 }
 
-pub ready-body : (t : Tree) (o : Positions) (ways : WaysOn) (j : LoopSetup) (k : ℕ)
-    (powers : Powers) → IsTree t → AreWays o ways → Contains t.loops j → address t k ≡ j.head →
-    Reachable (graph t) (address t k) → IsFilled (over t o ways) t (k + 1) powers →
-    IsReady (over t o ways) t (body (net (over t o ways)) j) powers
-ready-body t o ways j k powers is are known head r f =
+pub ready-body : (t : Tree) (o : Positions) (word_costs : CostsOn) (j : LoopSetup) (k : ℕ)
+    (powers : Powers) → IsTree t → AreWordCosts o word_costs → Contains t.loops j →
+    address t k ≡ j.head →
+    Reachable (graph t) (address t k) → IsFilled (over t o word_costs) t (k + 1) powers →
+    IsReady (over t o word_costs) t (body (net (over t o word_costs)) j) powers
+ready-body t o word_costs j k powers is are known head r f =
     let a = accepted t is in
     let l = a.ordered j known in
     record {
-      nested = over-nested t o ways is are;
-      part = body-part (over-nested t o ways is are) j known;
+      nested = over-nested t o word_costs is are;
+      part = body-part (over-nested t o word_costs is are) j known;
       reached = subst (λ v. Reachable (graph t) v) head r;
-      rounds = powers-body t o ways j k powers is known head f;
+      rounds = powers-body t o word_costs j k powers is known head f;
       count = f.count;
     }
 
-pub ready-whole : (t : Tree) (o : Positions) (ways : WaysOn) (powers : Powers) →
-    IsTree t → AreWays o ways → IsFilled (over t o ways) t 0 powers →
-    IsReady (over t o ways) t (whole (over t o ways)) powers
-ready-whole t o ways powers is are f =
+pub ready-whole : (t : Tree) (o : Positions) (word_costs : CostsOn) (powers : Powers) →
+    IsTree t → AreWordCosts o word_costs → IsFilled (over t o word_costs) t 0 powers →
+    IsReady (over t o word_costs) t (whole (over t o word_costs)) powers
+ready-whole t o word_costs powers is are f =
     let a = accepted t is in
     let order = is.draft.section.order in
     record {
-      nested = over-nested t o ways is are;
-      part = field-part (over t o ways) a;
+      nested = over-nested t o word_costs is are;
+      part = field-part (over t o word_costs) a;
       reached = first;
-      rounds = powers-whole t o ways powers f;
+      rounds = powers-whole t o word_costs powers f;
       count = f.count;
     }
 
 -- no loop's head is past the last word
-pub filled-none : (t : Tree) (o : Positions) (ways : WaysOn) (powers : Powers) →
+pub filled-none : (t : Tree) (o : Positions) (word_costs : CostsOn) (powers : Powers) →
     IsTree t → length powers ≡ length t.words → ((k : ℕ) → power_at powers k ≡ None) →
-    IsFilled (over t o ways) t (length t.words) powers
-filled-none t o ways powers is count none = record {
+    IsFilled (over t o word_costs) t (length t.words) powers
+filled-none t o word_costs powers is count none = record {
   count = count;
   some =
       λ j known le r. let l = (accepted t is).ordered j known in

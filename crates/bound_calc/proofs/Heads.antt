@@ -7,7 +7,7 @@ use Rattle.bound_calc.proofs.Embed.{Embedded, embed, is_or_not, same_head}
 use Rattle.bound_calc.proofs.Split.{Split, split}
 use Rattle.bound_calc.specs.Best.{Costs, Either, Stays, Then}
 use Rattle.bound_calc.specs.Context.{IsNested, IsScope, May, Net, Scope, Walk}
-use Rattle.bound_calc.specs.Ways.{Enters, Round, Rounds}
+use Rattle.bound_calc.specs.PathCosts.{Enters, Round, Rounds}
 use Rattle.fp_setup.specs.declared.loop_list.LoopSetup.{LoopSetup}
 use Rattle.region_tree.specs.Graph.{Holds}
 use Rattle.region_tree.specs.Walk.{counter_after}

@@ -10,7 +10,7 @@ use Rattle.bound_calc.proofs.Split.{Split, split}
 use Rattle.bound_calc.specs.Best.{Costs, Either, Power, Stays, Then}
 use Rattle.bound_calc.specs.Context.{IsNested, IsScope, May, Net, Scope, Walk, body}
 use Rattle.bound_calc.specs.Limit.{Shallow, room}
-use Rattle.bound_calc.specs.Ways.{Enters, Reaches, Round, Rounds}
+use Rattle.bound_calc.specs.PathCosts.{Enters, Reaches, Round, Rounds}
 use Rattle.fp_setup.specs.declared.loop_list.LoopSetup.{LoopSetup}
 use Rattle.region_tree.specs.Graph.{Holds, Inside}
 use Rattle.region_tree.specs.Nesting.{around}

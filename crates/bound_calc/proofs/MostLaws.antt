@@ -21,11 +21,11 @@ use Rattle.bound_calc.specs.Best.{AreBest, Costs, Entries, In, IsBest, Then, cei
 use Rattle.bound_calc.specs.Bound.{IsBound}
 use Rattle.bound_calc.specs.Hops.{IsHops, IsLeft}
 use Rattle.bound_calc.specs.Matrices.{entry}
-use Rattle.bound_calc.specs.Propagation.{FrontModel, IsMost, IsMostFrom, IsOut}
-use Rattle.bound_calc.specs.Propagation.{IsStraight, FrontCosts, edges_at, leaves}
-use Rattle.bound_calc.specs.Propagation.{index, walks, over, AreWays, WaysOn}
+use Rattle.bound_calc.specs.Propagation.{FrontierModel, IsMost, IsMostFrom, IsOut}
+use Rattle.bound_calc.specs.Propagation.{IsStraight, FrontierCosts, edges_at, leaves}
+use Rattle.bound_calc.specs.Propagation.{index, walks, over, AreWordCosts, CostsOn}
 use Rattle.bound_calc.specs.Section.{Steps, field, net, whole}
-use Rattle.bound_calc.specs.Ways.{Reaches}
+use Rattle.bound_calc.specs.PathCosts.{Reaches}
 use Rattle.bound_calc.proofs.Accepted.{accepted}
 use Rattle.bound_calc.proofs.Depth.{limit-whole, step-short}
 use Rattle.bound_calc.proofs.FillLaws.{below, modest-over}
@@ -287,12 +287,13 @@ most-more t o k here most new best m f = record {
             sum-≤ c here_k.one here_k.two y.0 0 ceiling new here_k.cost y.2 up
 
 -- one more word of straight code
-pub most-straight : (t : Tree) (o : Positions) (k last : ℕ) (way power : Option Matrix)
-    (f : FrontModel) (most new : ℕ) → IsTree t → last < length t.words → AreBest (FrontCosts f)
+pub most-straight : (t : Tree) (o : Positions) (k last : ℕ) (edge_costs power : Option Matrix)
+    (f : FrontierModel) (most new : ℕ) → IsTree t → last < length t.words →
+    AreBest (FrontierCosts f)
     (Reaches (net (field (walks t o))) (whole (field (walks t o))) (address t k)) →
-    IsStraight t (edges_at t k) k last way power f → IsMost (walks t o) t k most →
+    IsStraight t (edges_at t k) k last edge_costs power f → IsMost (walks t o) t k most →
     IsLeft f.base f.hops most new → IsMost (walks t o) t (k + 1) new
-most-straight t o k last way power f most new is inner best s m l = record {
+most-straight t o k last edge_costs power f most new is inner best s m l = record {
   met = elim l.met [
     | inl same ↦ subst Met (sym same) m.met
     | inr y ↦
@@ -387,21 +388,21 @@ most-all t o n most is frame top m =
         (Reaches (net (field x)) (whole (field x)) v) (Steps x.positions e.lag) p c q) (sym w.1) r))
 
 -- no word has a matrix of its own: every step is by the turns
-abbrev pub no-ways : WaysOn
-no-ways k = None
+abbrev pub no-word_costs : CostsOn
+no-word_costs k = None
 
-same-field : (t : Tree) (o : Positions) → over t o no-ways ≡ field (walks t o)
+same-field : (t : Tree) (o : Positions) → over t o no-word_costs ≡ field (walks t o)
 same-field t o = refl
 
 pub turns-best : (t : Tree) (o : Positions) (m : Entries) (v : ℕ) →
-    IsBest m (Reaches (net (over t o no-ways)) (whole (over t o no-ways)) v) →
+    IsBest m (Reaches (net (over t o no-word_costs)) (whole (over t o no-word_costs)) v) →
     IsBest m (Reaches (net (field (walks t o))) (whole (field (walks t o))) v)
 turns-best t o m v best = subst (λ f. IsBest m (Reaches (net f) (whole f) v)) (same-field t o) best
 
 pub turns-are : (t : Tree) (o : Positions) (a : Costs) (v : ℕ) →
-    AreBest a (Reaches (net (over t o no-ways)) (whole (over t o no-ways)) v) →
+    AreBest a (Reaches (net (over t o no-word_costs)) (whole (over t o no-word_costs)) v) →
     AreBest a (Reaches (net (field (walks t o))) (whole (field (walks t o))) v)
 turns-are t o a v best = subst (λ f. AreBest a (Reaches (net f) (whole f) v)) (same-field t o) best
 
-pub none-lead : (o : Positions) → AreWays o no-ways
-none-lead o k m e p c q i = let z : None ≡ Some m = e in cc
+pub none-go_on : (o : Positions) → AreWordCosts o no-word_costs
+none-go_on o k m e p c q i = let z : None ≡ Some m = e in cc

@@ -27,13 +27,13 @@ use Rattle.bound_calc.specs.Context.{IsNested, Scope, IsScope, body}
 use Rattle.bound_calc.specs.Hops.{Hops, IsHops, hop_chain}
 use Rattle.bound_calc.specs.Matrices.{entry}
 use Rattle.bound_calc.specs.Pass.{Edges, Below, And, AndTo, Brings, Comes}
-use Rattle.bound_calc.specs.Propagation.{FrontModel, Ahead, AreWays, IsArrived, IsBrought}
-use Rattle.bound_calc.specs.Propagation.{IsFront, IsGone, IsLed, IsReady, IsTaken}
-use Rattle.bound_calc.specs.Propagation.{IsSkipped, IsSpan, IsStraight, FrontCosts, Powers}
-use Rattle.bound_calc.specs.Propagation.{Via, Waits, WaysOn, move_costs, over, edges_at}
+use Rattle.bound_calc.specs.Propagation.{FrontierModel, Ahead, AreWordCosts, IsArrived, IsBrought}
+use Rattle.bound_calc.specs.Propagation.{IsFrontier, IsGone, IsLed, IsReady, IsTaken}
+use Rattle.bound_calc.specs.Propagation.{IsSkipped, IsSpan, IsStraight, FrontierCosts, Powers}
+use Rattle.bound_calc.specs.Propagation.{Via, Waits, CostsOn, move_costs, over, edges_at}
 use Rattle.bound_calc.specs.Propagation.{index, matrix_at, no_matrix, power_at, up_of}
 use Rattle.bound_calc.specs.Section.{Field, Steps, net, whole}
-use Rattle.bound_calc.specs.Ways.{Reaches, Enters, Rounds}
+use Rattle.bound_calc.specs.PathCosts.{Reaches, Enters, Rounds}
 use Rattle.bound_calc.proofs.Accepted.{accepted}
 use Rattle.bound_calc.proofs.Sections.{field-nested}
 use Rattle.bound_calc.proofs.BestLaws.{Within, are-either, are-in, are-same, are-then}
@@ -120,7 +120,7 @@ via-there is a = record {
   among = λ p e q y. a.among p e q y.1;
 }
 
-pub brought-none : (f : Costs) (old : FrontModel) → IsBrought None f old old
+pub brought-none : (f : Costs) (old : FrontierModel) → IsBrought None f old old
 brought-none f old = record {
   count = refl;
   base = refl;
@@ -146,12 +146,12 @@ holds old k m (Some n) is same = (
 
 -- costs were joined with those that wait at the index of an edge's target
 pub is-brought : (to : Option ℕ) (k : ℕ) (first : Matrix) (joined : Box Matrix Global) (f : Costs)
-    (front : FrontModel) (mid : Powers) (was : Option Matrix) → let old = front.waiting in
+    (frontier : FrontierModel) (mid : Powers) (was : Option Matrix) → let old = frontier.waiting in
     to ≡ Some k → k < length old → ((w : ℕ) → w ≢ k → power_at mid w ≡ power_at old w) →
     length mid ≡ length old → power_at old k ≡ was → IsTaken was first →
-    IsBest (entry joined.value) (Either (In (entry first)) f) → IsBrought to f front
-    (record { waiting = slice_set mid k (Some joined); base = front.base; hops = front.hops })
-is-brought to k first joined f front mid was is lt others count at taken best = record {
+    IsBest (entry joined.value) (Either (In (entry first)) f) → IsBrought to f frontier
+    (record { waiting = slice_set mid k (Some joined); base = frontier.base; hops = frontier.hops })
+is-brought to k first joined f frontier mid was is lt others count at taken best = record {
   count = length-set mid k (Some joined) ∙ count;
   base = refl;
   hops = refl;
@@ -159,7 +159,7 @@ is-brought to k first joined f front mid was is lt others count at taken best = 
 }
   where
     old : Powers
-    old = front.waiting
+    old = frontier.waiting
 
     same : Within (Waits old k) (In (entry first)) × Within (In (entry first)) (Waits old k)
     same = holds old k first was at taken
@@ -190,7 +190,7 @@ is-brought to k first joined f front mid was is lt others count at taken best = 
         ]))
 
 -- the costs that wait at an index, joined with those of the frontier
-pub joined-ahead : (f : FrontModel) (k : ℕ) (first base joined : Matrix) (was : Option Matrix) →
+pub joined-ahead : (f : FrontierModel) (k : ℕ) (first base joined : Matrix) (was : Option Matrix) →
     power_at f.waiting k ≡ was → IsTaken was first → base ≡ f.base →
     IsBest (entry joined) (Either (In (entry first)) (Then (In (entry base)) (Hops f.hops))) →
     IsBest (entry joined) (Ahead f k k)
@@ -200,10 +200,10 @@ joined-ahead f k first base joined was at taken is best = best-same there back b
         × Within (In (entry first)) (Waits f.waiting k)
     same = holds f.waiting k first was at taken
 
-    led : Within (Then (In (entry base)) (Hops f.hops)) (FrontCosts f)
+    led : Within (Then (In (entry base)) (Hops f.hops)) (FrontierCosts f)
     led p c q t = subst (λ m. Then (In (entry m)) (Hops f.hops) p c q) is t
 
-    un-led : Within (FrontCosts f) (Then (In (entry base)) (Hops f.hops))
+    un-led : Within (FrontierCosts f) (Then (In (entry base)) (Hops f.hops))
     un-led p c q t = subst (λ m. Then (In (entry m)) (Hops f.hops) p c q) (sym is) t
 
     there : Within (Either (In (entry first)) (Then (In (entry base)) (Hops f.hops))) (Ahead f k k)
@@ -278,7 +278,7 @@ pub still : (p d q : ℕ) → Hops (replicate 8 None) p d q → ⊥
 still p d q e = no-hop 8 p d q e
 
 -- the frontier went on to the next word by the turns
-pub led-turns : (o : Positions) (next : Option ℕ) (lag k : ℕ) (old : FrontModel) (row : HopRow) →
+pub led-turns : (o : Positions) (next : Option ℕ) (lag k : ℕ) (old : FrontierModel) (row : HopRow) →
     lag ≤ 3 → length o.frame ≤ 8 → IsHops o lag row.hops → next ≡ Some (k + 1) →
     IsLed o None next lag k old (record { waiting = old.waiting; base = old.base; hops = row.hops })
 led-turns o next lag k old row small frame h is = record {
@@ -320,18 +320,19 @@ led-turns o next lag k old row small frame h is = record {
     )
 
 -- a frontier without steps adds nothing to the costs that wait
-pub no-led : (f : FrontModel) (n w : ℕ) → ((p d q : ℕ) → Hops f.hops p d q → ⊥) →
+pub no-led : (f : FrontierModel) (n w : ℕ) → ((p d q : ℕ) → Hops f.hops p d q → ⊥) →
     AreBest (Ahead f n w) (Waits f.waiting w)
 no-led f n w none =
     are-within
     (λ p c q y. elim y [ inl z ↦ z | inr z ↦ absurd (let t = z.1 in none t.at t.two q t.second) ])
     (λ p c q y. inl y)
 
-pub led-waits : (o : Positions) (way : Option Matrix) (next : Option ℕ) (lag k : ℕ)
-    (old new : FrontModel) → IsBrought next (Then (In (entry old.base)) (move_costs o way lag))
+pub led-waits : (o : Positions) (edge_costs : Option Matrix) (next : Option ℕ) (lag k : ℕ)
+    (old new : FrontierModel) → IsBrought next (Then (In (entry old.base)) (move_costs o
+    edge_costs lag))
     (record { waiting = old.waiting; base = old.base; hops = replicate 8 None }) new →
-    IsLed o way next lag k old new
-led-waits o way next lag k old new b = record {
+    IsLed o edge_costs next lag k old new
+led-waits o edge_costs next lag k old new b = record {
   count = b.count;
   base = b.base;
   positions = λ p d q h. absurd (none p d q h);
@@ -343,12 +344,13 @@ led-waits o way next lag k old new b = record {
     none = subst (λ r. (p d q : ℕ) → Hops r p d q → ⊥) (sym b.hops) still
 
 -- then the other edge
-pub led-on : (t : Tree) (o : Positions) (way : Option Matrix)
-    (k last : ℕ) (old mid new : FrontModel) →
-    let e = edges_at t k in IsLed o way (up_of t k last e.next) e.next_lag k old mid →
-    IsBrought (up_of t k last e.jump) (Then (In (entry mid.base)) (move_costs o way 3)) mid new →
-    IsGone t o way e k last old new
-led-on t o way k last old mid new l b = record {
+pub led-on : (t : Tree) (o : Positions) (edge_costs : Option Matrix)
+    (k last : ℕ) (old mid new : FrontierModel) →
+    let e = edges_at t k in IsLed o edge_costs (up_of t k last e.next) e.next_lag k old mid →
+    IsBrought (up_of t k last e.jump) (Then (In (entry mid.base)) (move_costs o edge_costs
+    3)) mid new →
+    IsGone t o edge_costs e k last old new
+led-on t o edge_costs k last old mid new l b = record {
   count = b.count ∙ l.count;
   base = b.base ∙ l.base;
   positions = subst (λ r. (p d q : ℕ) → Hops r p d q → (p < 8) × (q < 8)) (sym b.hops) l.positions;
@@ -360,25 +362,26 @@ led-on t o way k last old mid new l b = record {
     e = edges_at t k
 
     Brings3 : ℕ → Costs
-    Brings3 w = Via (up_of t k last e.jump) w (Then (In (entry mid.base)) (move_costs o way 3))
+    Brings3 w = Via (up_of t k last e.jump) w (Then (In (entry mid.base)) (move_costs o
+        edge_costs 3))
 
     brings : (w : ℕ) → AreBest (Brings3 w)
-        (Via (up_of t k last e.jump) w (Then (In (entry old.base)) (move_costs o way 3)))
+        (Via (up_of t k last e.jump) w (Then (In (entry old.base)) (move_costs o edge_costs 3)))
     brings w =
         subst (λ m. AreBest (Brings3 w)
-        (Via (up_of t k last e.jump) w (Then (In (entry m)) (move_costs o way 3)))) l.base
+        (Via (up_of t k last e.jump) w (Then (In (entry m)) (move_costs o edge_costs 3)))) l.base
         (are-within (λ p c q y. y) (λ p c q y. y))
 
-    led : (w : ℕ) → Within (λ p c q. (w ≡ k + 1) × FrontCosts new p c q)
-        (λ p c q. (w ≡ k + 1) × FrontCosts mid p c q)
+    led : (w : ℕ) → Within (λ p c q. (w ≡ k + 1) × FrontierCosts new p c q)
+        (λ p c q. (w ≡ k + 1) × FrontierCosts mid p c q)
     led w p c q (same, y) = (
       same,
       subst (λ r. Then (In (entry mid.base)) (Hops r) p c q) b.hops
           (subst (λ m. Then (In (entry m)) (Hops new.hops) p c q) b.base y),
     )
 
-    un-led : (w : ℕ) → Within (λ p c q. (w ≡ k + 1) × FrontCosts mid p c q)
-        (λ p c q. (w ≡ k + 1) × FrontCosts new p c q)
+    un-led : (w : ℕ) → Within (λ p c q. (w ≡ k + 1) × FrontierCosts mid p c q)
+        (λ p c q. (w ≡ k + 1) × FrontierCosts new p c q)
     un-led w p c q (same, y) = (
       same,
       subst (λ m. Then (In (entry m)) (Hops new.hops) p c q) (sym b.base)
@@ -391,29 +394,31 @@ led-on t o way k last old mid new l b = record {
         (are-within swap swap-back)
       where
         swap : Within (Either (Either (Waits mid.waiting w) (Brings3 w)) (λ p c q. (w ≡ k + 1)
-            × FrontCosts mid p c q)) (Either (Ahead mid (k + 1) w) (Brings3 w))
+            × FrontierCosts mid p c q)) (Either (Ahead mid (k + 1) w) (Brings3 w))
         swap p c q (inl (inl y)) = inl (inl y)
         swap p c q (inl (inr y)) = inr y
         swap p c q (inr y) = inl (inr y)
 
         swap-back : Within (Either (Ahead mid (k + 1) w) (Brings3 w))
             (Either (Either (Waits mid.waiting w) (Brings3 w))
-            (λ p c q. (w ≡ k + 1) × FrontCosts mid p c q))
+            (λ p c q. (w ≡ k + 1) × FrontierCosts mid p c q))
         swap-back p c q (inl (inl y)) = inl (inl y)
         swap-back p c q (inl (inr y)) = inr y
         swap-back p c q (inr y) = inl (inr y)
 
 -- the costs of going on from a word lead to own positions
-pub moved-own : (o : Positions) (ways : WaysOn) → AreWays o ways →
-    (k lag p d q : ℕ) (w : Option Matrix) → ways k ≡ w → move_costs o w lag p d q → IsOwn o q
-moved-own o ways are k lag p d q None e m = m.own
-moved-own o ways are k lag p d q (Some w) e m = are k w e p d q m
+pub moved-own : (o : Positions) (word_costs : CostsOn) → AreWordCosts o word_costs →
+    (k lag p d q : ℕ) (w : Option Matrix) → word_costs k ≡ w → move_costs o w lag p d q → IsOwn o q
+moved-own o word_costs are k lag p d q None e m = m.own
+moved-own o word_costs are k lag p d q (Some w) e m = are k w e p d q m
 
-pub over-nested : (t : Tree) (o : Positions) (ways : WaysOn) → IsTree t → AreWays o ways →
-    IsNested (net (over t o ways))
-over-nested t o ways is are =
-    field-nested (over t o ways) (accepted t is)
-    (λ u lag p d q m. moved-own o ways are (index t u) lag p d q (ways (index t u)) refl m)
+pub over-nested : (t : Tree) (o : Positions) (word_costs : CostsOn) → IsTree t → AreWordCosts o
+    word_costs →
+    IsNested (net (over t o word_costs))
+over-nested t o word_costs is are =
+    field-nested (over t o word_costs) (accepted t is)
+    (λ u lag p d q m. moved-own o word_costs are (index t u) lag p d q (word_costs (index
+    t u)) refl m)
 
 -- the index of a target above
 up-some : (t : Tree) (k last v : ℕ) → address t k < v → v ≤ address t last →
@@ -601,11 +606,11 @@ pub lag-small : (t : Tree) (k : ℕ) → (edges_at t k).next_lag ≤ 3
 lag-small t k = next-short (word_at t (address t k)) (address t k)
 
 -- the costs at the word at an index, if it is no head of a loop
-plain : (t : Tree) (o : Positions) (ways : WaysOn) (s : Scope) (k : ℕ)
-    (powers : Powers) {a : Costs} → IsReady (over t o ways) t s powers →
-    power_at powers k ≡ None → AreBest a (Enters (net (over t o ways)) s (address t k)) →
-    AreBest a (Reaches (net (over t o ways)) s (address t k))
-plain t o ways s k powers y e entered = reach-plain y.part no_head y.reached entered
+plain : (t : Tree) (o : Positions) (word_costs : CostsOn) (s : Scope) (k : ℕ)
+    (powers : Powers) {a : Costs} → IsReady (over t o word_costs) t s powers →
+    power_at powers k ≡ None → AreBest a (Enters (net (over t o word_costs)) s (address t k)) →
+    AreBest a (Reaches (net (over t o word_costs)) s (address t k))
+plain t o word_costs s k powers y e entered = reach-plain y.part no_head y.reached entered
   where
     no_head : (j : LoopSetup) → s.loops j → Reachable (graph t) (address t k) → address t k ≢ j.head
     no_head j known rv head =
@@ -615,46 +620,48 @@ plain t o ways s k powers y e entered = reach-plain y.part no_head y.reached ent
         let w : None ≡ Some some.0 = sym e ∙ z in
         let none : ⊥ = cc in none
 
-entered : (t : Tree) (o : Positions) (ways : WaysOn) (s : Scope) (k : ℕ)
-    (f : FrontModel) (powers : Powers) → IsTree t → IsReady (over t o ways) t s powers →
-    IsFront (over t o ways) t s k f → address t k ≤ s.high → k < length t.words →
-    AreBest (Ahead f k k) (Enters (net (over t o ways)) s (address t k))
-entered t o ways s k f powers is y p high within =
+entered : (t : Tree) (o : Positions) (word_costs : CostsOn) (s : Scope) (k : ℕ)
+    (f : FrontierModel) (powers : Powers) → IsTree t → IsReady (over t o word_costs) t s powers →
+    IsFrontier (over t o word_costs) t s k f → address t k ≤ s.high → k < length t.words →
+    AreBest (Ahead f k k) (Enters (net (over t o word_costs)) s (address t k))
+entered t o word_costs s k f powers is y p high within =
     are-same (comes-enters y.reached (address-lies t is.draft k within)) enters-comes
     (p.ahead k (omega arith) high)
 
 -- at a word of straight code
-pub straight : (t : Tree) (o : Positions) (ways : WaysOn) (s : Scope) (k : ℕ)
-    (f : FrontModel) (powers : Powers) → IsTree t → IsReady (over t o ways) t s powers →
-    IsFront (over t o ways) t s k f → address t k ≤ s.high → k < length t.words →
+pub straight : (t : Tree) (o : Positions) (word_costs : CostsOn) (s : Scope) (k : ℕ)
+    (f : FrontierModel) (powers : Powers) → IsTree t → IsReady (over t o word_costs) t s powers →
+    IsFrontier (over t o word_costs) t s k f → address t k ≤ s.high → k < length t.words →
     power_at powers k ≡ None → power_at f.waiting k ≡ None →
-    AreBest (FrontCosts f) (Reaches (net (over t o ways)) s (address t k))
-straight t o ways s k f powers is y p high within none empty =
-    plain t o ways s k powers y none
-    (are-through led (entered t o ways s k f powers is y p high within))
+    AreBest (FrontierCosts f) (Reaches (net (over t o word_costs)) s (address t k))
+straight t o word_costs s k f powers is y p high within none empty =
+    plain t o word_costs s k powers y none
+    (are-through led (entered t o word_costs s k f powers is y p high within))
   where
-    led : AreBest (FrontCosts f) (Ahead f k k)
+    led : AreBest (FrontierCosts f) (Ahead f k k)
     led = are-within (λ p c q z. inr (refl, z)) (λ p c q z. elim z [
       | inl m ↦ absurd (let e : None ≡ Some m.0 = sym empty ∙ m.1 in let n : ⊥ = cc in n)
       | inr l ↦ l.1
     ])
 
 -- the costs at a word where the frontier's costs were collected
-pub arrived : (t : Tree) (o : Positions) (ways : WaysOn) (s : Scope) (k : ℕ)
-    (f new : FrontModel) (powers : Powers) → IsTree t → IsReady (over t o ways) t s powers →
-    IsFront (over t o ways) t s k f → s.low ≤ address t k → address t k ≤ s.high →
+pub arrived : (t : Tree) (o : Positions) (word_costs : CostsOn) (s : Scope) (k : ℕ)
+    (f new : FrontierModel) (powers : Powers) → IsTree t → IsReady (over t o word_costs)
+    t s powers →
+    IsFrontier (over t o word_costs) t s k f → s.low ≤ address t k → address t k ≤ s.high →
     k < length t.words → IsArrived (power_at powers k) k f new →
-    IsBest (entry new.base) (Reaches (net (over t o ways)) s (address t k))
-arrived t o ways s k f new powers is y p low high within a = go (power_at powers k) refl a.here
+    IsBest (entry new.base) (Reaches (net (over t o word_costs)) s (address t k))
+arrived t o word_costs s k f new powers is y p low high within a = go (power_at powers
+    k) refl a.here
   where
     x : Field
-    x = over t o ways
+    x = over t o word_costs
 
     here : Matrix
     here = new.base
 
     joined : IsBest (entry a.joined) (Enters (net x) s (address t k))
-    joined = best-through a.best (entered t o ways s k f powers is y p high within)
+    joined = best-through a.best (entered t o word_costs s k f powers is y p high within)
 
     go : (power : Option Matrix) → power_at powers k ≡ power → MatchOption power (here ≡ a.joined)
         (λ m. IsBest (entry here) (Then (In (entry a.joined)) (In (entry m)))) →
@@ -662,7 +669,7 @@ arrived t o ways s k f new powers is y p low high within a = go (power_at powers
     go None e same =
         subst (λ m. IsBest (entry m) (Reaches (net x) s (address t k))) (sym same)
         (best-through joined
-        (plain t o ways s k powers y e (are-within (λ p c q z. z) (λ p c q z. z))))
+        (plain t o word_costs s k powers y e (are-within (λ p c q z. z) (λ p c q z. z))))
     go (Some m) e best = found (y.rounds.only k m low high e)
       where
         found : (j : LoopSetup) × s.loops j × (address t k ≡ j.head) × Reachable (graph t)
@@ -698,26 +705,27 @@ up-within t is k last target aligned inside = go (up_of t k last target) refl
         (omega arith, omega arith)
 
 -- ahead of the next word
-stepped : (t : Tree) (o : Positions) (ways : WaysOn) (s : Scope) (first last k : ℕ)
-    (waiting : Powers) (new : FrontModel) (h : Costs) → IsTree t → Reachable (graph t) s.low →
-    IsSpan t s first last → k ≤ last → let x = over t o ways in
+stepped : (t : Tree) (o : Positions) (word_costs : CostsOn) (s : Scope) (first last k : ℕ)
+    (waiting : Powers) (new : FrontierModel) (h : Costs) → IsTree t → Reachable (graph t) s.low →
+    IsSpan t s first last → k ≤ last → let x = over t o word_costs in
     let e = edges_at t k in
     ((w : ℕ) → k < w → address t w ≤ s.high →
     AreBest (Waits waiting w) (Comes x s (Below x (address t k)) (address t w))) →
     AreBest h (Reaches (net x) s (address t k)) →
     ((w : ℕ) → k < w → AreBest (Ahead new (k + 1) w) (Either (Either (Waits waiting w)
-    (Via (up_of t k last e.next) w (Then h (move_costs o (ways k) e.next_lag))))
-    (Via (up_of t k last e.jump) w (Then h (move_costs o (ways k) 3))))) →
+    (Via (up_of t k last e.next) w (Then h (move_costs o (word_costs k) e.next_lag))))
+    (Via (up_of t k last e.jump) w (Then h (move_costs o (word_costs k) 3))))) →
     (w : ℕ) → k + 1 ≤ w → address t w ≤ s.high →
     AreBest (Ahead new (k + 1) w) (Comes x s (Below x (address t (k + 1))) (address t w))
-stepped t o ways s first last k waiting new h is r sp le before best goes w up high =
+stepped t o word_costs s first last k waiting new h is r sp le before best goes w up high =
     let lt : k < w = omega arith in
     let top : address t w ≤ address t last = sp.top (address t w) (index-aligned t is w) high in
     let within : w ≤ last = omega arith in
     let same : index t (address t k) ≡ k = address-index t k in
     let there = subst (λ n. AreBest (Ahead new (k + 1) w) (Either (Either (Waits waiting w)
-    (Via (up_of t k last e.next) w (Then h (move_costs o (ways n) e.next_lag))))
-    (Via (up_of t k last e.jump) w (Then h (move_costs o (ways n) 3))))) (sym same) (goes w lt) in
+    (Via (up_of t k last e.next) w (Then h (move_costs o (word_costs n) e.next_lag))))
+    (Via (up_of t k last e.jump) w (Then h (move_costs o (word_costs n) 3))))) (sym same)
+    (goes w lt) in
     both_edges t k w is refl r (are-through there
     (brought t k last e.jump 3 is r sp.within sp.inside (jump-aligned t is k) best w lt within
     (brought t k last e.next e.next_lag is r sp.within sp.inside
@@ -726,40 +734,44 @@ stepped t o ways s first last k waiting new h is r sp le before best goes w up h
     e : EdgesOf
     e = edges_at t k
 
-waits-before : (t : Tree) (o : Positions) (ways : WaysOn) (s : Scope) (k : ℕ)
-    (f : FrontModel) (waiting : Powers) → IsFront (over t o ways) t s k f →
+waits-before : (t : Tree) (o : Positions) (word_costs : CostsOn) (s : Scope) (k : ℕ)
+    (f : FrontierModel) (waiting : Powers) → IsFrontier (over t o word_costs) t s k f →
     ((w : ℕ) → w ≢ k → power_at waiting w ≡ power_at f.waiting w) →
     (w : ℕ) → k < w → address t w ≤ s.high → AreBest (Waits waiting w)
-    (Comes (over t o ways) s (Below (over t o ways) (address t k)) (address t w))
-waits-before t o ways s k f waiting p others w up high =
+    (Comes (over t o word_costs) s (Below (over t o word_costs) (address t k)) (address t w))
+waits-before t o word_costs s k f waiting p others w up high =
     are-through (waits-same f.waiting waiting w (others w (omega arith)))
     (are-through (are-within (λ p c q z. inl z) (λ p c q z.
     elim z [ inl y ↦ y | inr y ↦ absurd (omega (arith, y.0)) ])) (p.ahead w (omega arith) high))
 
 -- the frontier went on from a word where its costs were collected
-pub gone : (t : Tree) (o : Positions) (ways : WaysOn) (s : Scope) (first last k : ℕ)
-    (f here new : FrontModel) (powers : Powers) → IsTree t → IsReady (over t o ways) t s powers →
-    IsSpan t s first last → first ≤ k → k ≤ last → IsFront (over t o ways) t s k f →
-    IsArrived (power_at powers k) k f here → IsGone t o (ways k) (edges_at t k) k last here new →
-    IsFront (over t o ways) t s (k + 1) new
-gone t o ways s first last k f here new powers is y sp from le p a g = record {
+pub gone : (t : Tree) (o : Positions) (word_costs : CostsOn) (s : Scope) (first last k : ℕ)
+    (f here new : FrontierModel) (powers : Powers) → IsTree t → IsReady (over t o word_costs)
+    t s powers →
+    IsSpan t s first last → first ≤ k → k ≤ last → IsFrontier (over t o word_costs) t s k f →
+    IsArrived (power_at powers k) k f here → IsGone t o (word_costs k) (edges_at t k) k
+    last here new →
+    IsFrontier (over t o word_costs) t s (k + 1) new
+gone t o word_costs s first last k f here new powers is y sp from le p a g = record {
   count = g.count ∙ (a.count ∙ p.count);
   positions = g.positions;
   short = λ p d q h. let z = g.short p d q h in omega arith;
   ahead =
-      stepped t o ways s first last k here.waiting new (In (entry here.base)) is y.reached sp le
-      (waits-before t o ways s k f here.waiting p a.others)
-      (are-in (arrived t o ways s k f here powers is y p (omega (arith, sp.low))
+      stepped t o word_costs s first last k here.waiting new (In (entry here.base)) is
+      y.reached sp le
+      (waits-before t o word_costs s k f here.waiting p a.others)
+      (are-in (arrived t o word_costs s k f here powers is y p (omega (arith, sp.low))
       (omega (arith, sp.within)) (omega (arith, sp.inside)) a)) g.ahead;
 }
 
 -- the frontier passed a word of straight code
-pub skipped : (t : Tree) (o : Positions) (ways : WaysOn) (s : Scope) (first last k : ℕ)
-    (f new : FrontModel) (powers : Powers) → IsTree t → IsReady (over t o ways) t s powers →
-    IsSpan t s first last → first ≤ k → k ≤ last → IsFront (over t o ways) t s k f →
-    IsStraight t (edges_at t k) k last (ways k) (power_at powers k) f →
-    IsSkipped o (edges_at t k).next_lag f new → IsFront (over t o ways) t s (k + 1) new
-skipped t o ways s first last k f new powers is y sp from le p z g = record {
+pub skipped : (t : Tree) (o : Positions) (word_costs : CostsOn) (s : Scope) (first last k : ℕ)
+    (f new : FrontierModel) (powers : Powers) → IsTree t → IsReady (over t o word_costs)
+    t s powers →
+    IsSpan t s first last → first ≤ k → k ≤ last → IsFrontier (over t o word_costs) t s k f →
+    IsStraight t (edges_at t k) k last (word_costs k) (power_at powers k) f →
+    IsSkipped o (edges_at t k).next_lag f new → IsFrontier (over t o word_costs) t s (k + 1) new
+skipped t o word_costs s first last k f new powers is y sp from le p z g = record {
   count = ap length g.waiting ∙ p.count;
   positions = λ a d b h. let u = (g.hops a d b).0 h in (
     (p.positions a u.one u.at u.first).0,
@@ -772,9 +784,9 @@ skipped t o ways s first last k f new powers is y sp from le p z g = record {
       step-short o e.next_lag u.at u.two b (lag-small t k) g.frame u.second in
       omega (arith, u.cost);
   ahead =
-      stepped t o ways s first last k f.waiting new (FrontCosts f) is y.reached sp le
-      (waits-before t o ways s k f f.waiting p (λ w ne. refl))
-      (straight t o ways s k f powers is y p (omega (arith, sp.within))
+      stepped t o word_costs s first last k f.waiting new (FrontierCosts f) is y.reached sp le
+      (waits-before t o word_costs s k f f.waiting p (λ w ne. refl))
+      (straight t o word_costs s k f powers is y p (omega (arith, sp.within))
       (omega (arith, sp.inside)) z.no_power z.waits) (λ w up. are-within (there w) (back w));
 }
   where
@@ -784,16 +796,18 @@ skipped t o ways s first last k f new powers is y sp from le p z g = record {
     Goes : ℕ → Costs
     Goes w =
         Either (Either (Waits f.waiting w)
-        (Via (up_of t k last e.next) w (Then (FrontCosts f) (move_costs o (ways k) e.next_lag))))
-        (Via (up_of t k last e.jump) w (Then (FrontCosts f) (move_costs o (ways k) 3)))
+        (Via (up_of t k last e.next) w (Then (FrontierCosts f) (move_costs o (word_costs k)
+        e.next_lag))))
+        (Via (up_of t k last e.jump) w (Then (FrontierCosts f) (move_costs o (word_costs k) 3)))
 
-    turned : (p c q : ℕ) → Steps o e.next_lag p c q → move_costs o (ways k) e.next_lag p c q
+    turned : (p c q : ℕ) → Steps o e.next_lag p c q → move_costs o (word_costs k) e.next_lag p c q
     turned p c q h = subst (λ m. move_costs o m e.next_lag p c q) (sym z.no_way) h
 
-    turns : (p c q : ℕ) → move_costs o (ways k) e.next_lag p c q → Steps o e.next_lag p c q
+    turns : (p c q : ℕ) → move_costs o (word_costs k) e.next_lag p c q → Steps o e.next_lag p c q
     turns p c q h = subst (λ m. move_costs o m e.next_lag p c q) z.no_way h
 
-    led : Within (FrontCosts new) (Then (FrontCosts f) (move_costs o (ways k) e.next_lag))
+    led : Within (FrontierCosts new) (Then (FrontierCosts f) (move_costs o (word_costs k)
+        e.next_lag))
     led p c q l =
         let u = (g.hops l.at l.two q).0 l.second in
         record {
@@ -812,7 +826,8 @@ skipped t o ways s first last k f new powers is y sp from le p z g = record {
           cost = omega (arith, l.cost, u.cost);
         }
 
-    led-back : Within (Then (FrontCosts f) (move_costs o (ways k) e.next_lag)) (FrontCosts new)
+    led-back : Within (Then (FrontierCosts f) (move_costs o (word_costs k) e.next_lag))
+        (FrontierCosts new)
     led-back p c q l =
         let m = l.first in
         record {
@@ -848,23 +863,24 @@ skipped t o ways s first last k f new powers is y sp from le p z g = record {
         let n : ⊥ = cc in n)
 
 -- the pass begins
-pub begun : (t : Tree) (o : Positions) (ways : WaysOn) (s : Scope) (first last k : ℕ)
-    (waiting : Powers) (one : Box Matrix Global) (f : FrontModel) → IsTree t →
-    IsScope (net (over t o ways)) s → IsSpan t s first last → s.low ≡ address t k →
+pub begun : (t : Tree) (o : Positions) (word_costs : CostsOn) (s : Scope) (first last k : ℕ)
+    (waiting : Powers) (one : Box Matrix Global) (f : FrontierModel) → IsTree t →
+    IsScope (net (over t o word_costs)) s → IsSpan t s first last → s.low ≡ address t k →
     length waiting ≡ length t.words → ((w : ℕ) → first ≤ w → w ≤ last → power_at waiting w ≡ None) →
     IsBest (entry one.value) (Stays (IsOwn o)) → f.waiting ≡ slice_set waiting first (Some one) →
-    ((p d q : ℕ) → Hops f.hops p d q → ⊥) → IsFront (over t o ways) t s k f
-begun t o ways s first last k waiting one f is part sp low count none best put still = record {
-  count = ap length put ∙ (length-set waiting first (Some one) ∙ count);
-  positions = λ p d q h. absurd (still p d q h);
-  short = λ p d q h. absurd (still p d q h);
-  ahead =
-      λ w from high.
-      go w from high (let e = sp.low in let y : (w ≡ first) ⊎ (first < w) = grind arith in y);
-}
+    ((p d q : ℕ) → Hops f.hops p d q → ⊥) → IsFrontier (over t o word_costs) t s k f
+begun t o word_costs s first last k waiting one f is part sp low count none best put
+    still = record {
+      count = ap length put ∙ (length-set waiting first (Some one) ∙ count);
+      positions = λ p d q h. absurd (still p d q h);
+      short = λ p d q h. absurd (still p d q h);
+      ahead =
+          λ w from high.
+          go w from high (let e = sp.low in let y : (w ≡ first) ⊎ (first < w) = grind arith in y);
+    }
   where
     x : Field
-    x = over t o ways
+    x = over t o word_costs
 
     nothing_yet : (v p c q : ℕ) → Brings x s (Below x (address t k)) v p c q → ⊥
     nothing_yet v p c q b = let z = above part b.walk.walk in let y = b.edge.0 in omega arith
@@ -930,9 +946,9 @@ cleared waiting k w lt (inr same) before =
     ap (power_at (slice_set waiting w None)) same ∙ waits-put waiting w None lt
 
 -- the span of a part
-pub span-whole : (t : Tree) (o : Positions) (ways : WaysOn) (last : ℕ) → IsTree t →
-    last ≡ (t.section.to - t.section.from) / 4 - 1 → IsSpan t (whole (over t o ways)) 0 last
-span-whole t o ways last is e =
+pub span-whole : (t : Tree) (o : Positions) (word_costs : CostsOn) (last : ℕ) → IsTree t →
+    last ≡ (t.section.to - t.section.from) / 4 - 1 → IsSpan t (whole (over t o word_costs)) 0 last
+span-whole t o word_costs last is e =
     let w = is.draft.words in
     let a = is.draft.section.from_aligned in
     let b = is.draft.section.to_aligned in
@@ -945,10 +961,11 @@ span-whole t o ways last is e =
       inside = omega arith;
     }
 
-pub span-body : (t : Tree) (o : Positions) (ways : WaysOn) (j : LoopSetup) → IsTree t →
-    Contains t.loops j → IsSpan t (body (net (over t o ways)) j) ((j.head - t.section.from) / 4)
+pub span-body : (t : Tree) (o : Positions) (word_costs : CostsOn) (j : LoopSetup) → IsTree t →
+    Contains t.loops j → IsSpan t (body (net (over t o word_costs)) j) ((j.head -
+    t.section.from) / 4)
     ((j.last - t.section.from) / 4)
-span-body t o ways j is known =
+span-body t o word_costs j is known =
     let w = is.draft.words in
     let a = is.draft.section.from_aligned in
     let b = is.draft.section.to_aligned in
@@ -966,9 +983,9 @@ span-body t o ways j is known =
     }
 
 -- as many words as indices
-pub span-count : (t : Tree) (o : Positions) (ways : WaysOn) (first last : ℕ) → IsTree t →
-    IsSpan t (whole (over t o ways)) first last → length t.words ≡ last + 1
-span-count t o ways first last is sp =
+pub span-count : (t : Tree) (o : Positions) (word_costs : CostsOn) (first last : ℕ) → IsTree t →
+    IsSpan t (whole (over t o word_costs)) first last → length t.words ≡ last + 1
+span-count t o word_costs first last is sp =
     let w = is.draft.words in
     let a = is.draft.section.from_aligned in
     let b = is.draft.section.to_aligned in

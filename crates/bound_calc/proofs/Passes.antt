@@ -9,7 +9,7 @@ use Rattle.bound_calc.specs.Best.{AreBest, Costs, Either, Entries, In, IsBest, P
 use Rattle.bound_calc.specs.Context.{IsNested, IsScope, Net, Scope, Walk}
 use Rattle.bound_calc.specs.Pass.{And, Below, Brings, Comes, Edges, Turns}
 use Rattle.bound_calc.specs.Section.{Field, net}
-use Rattle.bound_calc.specs.Ways.{Enters, Reaches, Round, Rounds}
+use Rattle.bound_calc.specs.PathCosts.{Enters, Reaches, Round, Rounds}
 use Rattle.fp_setup.specs.declared.loop_list.LoopSetup.{LoopSetup}
 use Rattle.region_tree.specs.Graph.{Edge, Holds, Lies, Reachable}
 use Rattle.bound_calc.specs.Context.Walk.{start, step}

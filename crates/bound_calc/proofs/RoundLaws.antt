@@ -60,17 +60,18 @@ leads-to x u p ts v q v' q' a b l =
     subst (λ w. Leads x u p ts w q') (sym a) (subst (λ r. Leads x u p ts v r) (sym b) l)
 
 -- the first steps of a path
-leads-front : (x : Course) (u p : ℕ) (after ts : List Step) (v q : ℕ) →
+leads-frontier : (x : Course) (u p : ℕ) (after ts : List Step) (v q : ℕ) →
     Leads x u p (after ++ ts) v q → Leads x u p ts (word_after u ts) (position_after p ts)
-leads-front x u p [] ts v q l =
+leads-frontier x u p [] ts v q l =
     let e = leads-ends x u p ts v q l in
     leads-to x u p ts v q (word_after u ts) (position_after p ts) (sym e.0) (sym e.1) l
-leads-front x u p (t ∷ after) ts v q l = leads-front x u p after ts t.from t.at l.0
+leads-frontier x u p (t ∷ after) ts v q l = leads-frontier x u p after ts t.from t.at l.0
 
-keeps-front : (loops : List LoopSetup) (after ts : List Step) → Keeps loops (λ i. 0) (after ++ ts) →
+keeps-frontier : (loops : List LoopSetup) (after ts : List Step) → Keeps loops (λ i. 0)
+    (after ++ ts) →
     Keeps loops (λ i. 0) ts
-keeps-front loops [] ts k = k
-keeps-front loops (t ∷ after) ts k = keeps-front loops after ts k.0
+keeps-frontier loops [] ts k = k
+keeps-frontier loops (t ∷ after) ts k = keeps-frontier loops after ts k.0
 
 kept : (loops : List LoopSetup) (ts : List Step) → Keeps loops (λ i. 0) ts → (i : LoopSetup) →
     Contains loops i → counter i 0 ts ≤ i.limit
@@ -180,8 +181,8 @@ found x j p before (t ∷ during) v q l k enters within =
 
 pub stays_in_rounds : StaysInRounds
 stays_in_rounds x j p v q before during after known w enters within =
-    let l = leads-front x x.graph.from p after (during ++ before) v q w.leads in
-    let k = keeps-front x.graph.loops after (during ++ before) w.keeps in
+    let l = leads-frontier x x.graph.from p after (during ++ before) v q w.leads in
+    let k = keeps-frontier x.graph.loops after (during ++ before) w.keeps in
     let y = found x j p before during (word_after x.graph.from (during ++ before))
     (position_after p (during ++ before)) l k enters within in
     record {

@@ -6,7 +6,7 @@ use Rattle.bound_calc.specs.Best.{Then}
 use Rattle.bound_calc.specs.Bound.{IsBound}
 use Rattle.bound_calc.specs.Context.{IsNested, IsScope, May, Walk}
 use Rattle.bound_calc.specs.Section.{Field, IsAccepted, Steps, field, net, whole}
-use Rattle.bound_calc.specs.Ways.{Reaches}
+use Rattle.bound_calc.specs.PathCosts.{Reaches}
 use Rattle.fp_setup.specs.declared.loop_list.LoopSetup.{LoopSetup}
 use Rattle.region_tree.specs.Graph.{Edge, Lies, Reachable}
 use Rattle.region_tree.specs.Walk.{CostsOf, Course, IsOwn, IsWalk, Keeps}

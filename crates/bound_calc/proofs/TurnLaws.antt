@@ -16,10 +16,10 @@ use Rattle.bound_calc.specs.Best.{Costs, Either, Entries, In, IsBest, Stays, The
 use Rattle.bound_calc.specs.Context.{IsScope, body}
 use Rattle.bound_calc.specs.Matrices.{entry}
 use Rattle.bound_calc.specs.Pass.{AndTo, Below, Edges, Turns}
-use Rattle.bound_calc.specs.Propagation.{FrontModel, AreWays, IsSpan, IsStraight}
-use Rattle.bound_calc.specs.Propagation.{IsTurned, edges_at, over, WaysOn}
+use Rattle.bound_calc.specs.Propagation.{FrontierModel, AreWordCosts, IsSpan, IsStraight}
+use Rattle.bound_calc.specs.Propagation.{IsTurned, edges_at, over, CostsOn}
 use Rattle.bound_calc.specs.Section.{Field, net}
-use Rattle.bound_calc.specs.Ways.{Reaches, Round}
+use Rattle.bound_calc.specs.PathCosts.{Reaches, Round}
 use Rattle.bound_calc.proofs.Accepted.{accepted}
 use Rattle.bound_calc.proofs.BestLaws.{Within, best-either-then, best-same, either-lands}
 use Rattle.bound_calc.proofs.Counters.{above}
@@ -148,16 +148,19 @@ turned {x} {f} {back} {here} {new} j v target lag r part best t before =
         (not-turned j v target lag r part other before)
 
 -- both edges of the word at an index
-pub turns-word : {m : Entries} (t : Tree) (o : Positions) (ways : WaysOn) (j : LoopSetup) (k : ℕ) →
+pub turns-word : {m : Entries} (t : Tree) (o : Positions) (word_costs : CostsOn)
+    (j : LoopSetup) (k : ℕ) →
     IsTree t → Reachable (graph t) j.head →
-    IsScope (net (over t o ways)) (body (net (over t o ways)) j) → let e = edges_at t k in
-    IsBest m (Turns (over t o ways) j (AndTo (AndTo (Below (over t o ways) (address t k))
+    IsScope (net (over t o word_costs)) (body (net (over t o word_costs)) j) → let e =
+    edges_at t k in
+    IsBest m (Turns (over t o word_costs) j (AndTo (AndTo (Below (over t o word_costs)
+    (address t k))
     (address t k) e.next e.next_lag) (address t k) e.jump 3)) →
-    IsBest m (Turns (over t o ways) j (Below (over t o ways) (address t (k + 1))))
-turns-word {m} t o ways j k is r part best = turns-same j r part there back best
+    IsBest m (Turns (over t o word_costs) j (Below (over t o word_costs) (address t (k + 1))))
+turns-word {m} t o word_costs j k is r part best = turns-same j r part there back best
   where
     x : Field
-    x = over t o ways
+    x = over t o word_costs
 
     e : EdgesOf
     e = edges_at t k
@@ -203,14 +206,15 @@ turns-word {m} t o ways j k is r part best = turns-same j r part there back best
             (subst (λ u. Contains (x.graph.edges u) b) here z.1))
 
 -- a word of straight code, at or above the head
-pub turns-straight : {m : Entries} (t : Tree) (o : Positions) (ways : WaysOn)
-    (j : LoopSetup) (k last : ℕ) (way power : Option Matrix) (f : FrontModel) → IsTree t →
-    Reachable (graph t) j.head → IsScope (net (over t o ways)) (body (net (over t o ways)) j) →
-    j.head ≤ address t k → IsStraight t (edges_at t k) k last way power f →
-    IsBest m (Turns (over t o ways) j (Below (over t o ways) (address t k))) →
-    IsBest m (Turns (over t o ways) j (Below (over t o ways) (address t (k + 1))))
-turns-straight {m} t o ways j k last way power f is r part low s before =
-    turns-word t o ways j k is r part (not-turned j (address t k) e.jump 3 r part
+pub turns-straight : {m : Entries} (t : Tree) (o : Positions) (word_costs : CostsOn)
+    (j : LoopSetup) (k last : ℕ) (edge_costs power : Option Matrix) (f : FrontierModel) → IsTree t →
+    Reachable (graph t) j.head → IsScope (net (over t o word_costs)) (body (net (over t o
+    word_costs)) j) →
+    j.head ≤ address t k → IsStraight t (edges_at t k) k last edge_costs power f →
+    IsBest m (Turns (over t o word_costs) j (Below (over t o word_costs) (address t k))) →
+    IsBest m (Turns (over t o word_costs) j (Below (over t o word_costs) (address t (k + 1))))
+turns-straight {m} t o word_costs j k last edge_costs power f is r part low s before =
+    turns-word t o word_costs j k is r part (not-turned j (address t k) e.jump 3 r part
     (λ h. let none : None ≡ Some j.head = sym s.jump ∙ h in cc)
     (not-turned j (address t k) e.next e.next_lag r part
     (λ h. let u = up-is t k last e.next (k + 1) s.next in
@@ -229,18 +233,18 @@ turns-none j v e part none = (
 )
 
 -- all words of the loop
-pub turns-all : {m : Entries} (t : Tree) (o : Positions) (ways : WaysOn)
+pub turns-all : {m : Entries} (t : Tree) (o : Positions) (word_costs : CostsOn)
     (j : LoopSetup) (first last : ℕ) → IsTree t → Reachable (graph t) j.head →
-    Contains t.loops j → IsScope (net (over t o ways)) (body (net (over t o ways)) j) →
-    IsSpan t (body (net (over t o ways)) j) first last →
-    IsBest m (Turns (over t o ways) j (Below (over t o ways) (address t (last + 1)))) →
-    IsBest m (Round (net (over t o ways)) j)
-turns-all {m} t o ways j first last is r h part sp best =
+    Contains t.loops j → IsScope (net (over t o word_costs)) (body (net (over t o word_costs)) j) →
+    IsSpan t (body (net (over t o word_costs)) j) first last →
+    IsBest m (Turns (over t o word_costs) j (Below (over t o word_costs) (address t (last + 1)))) →
+    IsBest m (Round (net (over t o word_costs)) j)
+turns-all {m} t o word_costs j first last is r h part sp best =
     best-same turning (rounds-turns j (Below x (address t (last + 1)))
     (λ u e a held edge. (omega (arith, held.1, top), edge))) best
   where
     x : Field
-    x = over t o ways
+    x = over t o word_costs
 
     top : j.last ≤ address t last
     top = sp.top j.last (is.draft.loops j h).last_aligned (omega arith)
@@ -278,19 +282,22 @@ is-turned f back here joined target head is best =
     record { other = λ never. absurd (never is); there = λ z. best }
 
 -- a loop's round, after all words of the loop were passed
-pub turns-done : {m : Entries} (t : Tree) (o : Positions) (ways : WaysOn)
+pub turns-done : {m : Entries} (t : Tree) (o : Positions) (word_costs : CostsOn)
     (j : LoopSetup) (first last k : ℕ) → IsTree t → Reachable (graph t) j.head →
-    Contains t.loops j → IsScope (net (over t o ways)) (body (net (over t o ways)) j) →
-    IsSpan t (body (net (over t o ways)) j) first last → k ≡ last + 1 →
-    IsBest m (Turns (over t o ways) j (Below (over t o ways) (address t k))) →
-    IsBest m (Round (net (over t o ways)) j)
-turns-done {m} t o ways j first last k is r h part sp e best =
-    turns-all t o ways j first last is r h part sp
-    (subst (λ k. IsBest m (Turns (over t o ways) j (Below (over t o ways) (address t k)))) e best)
+    Contains t.loops j → IsScope (net (over t o word_costs)) (body (net (over t o word_costs)) j) →
+    IsSpan t (body (net (over t o word_costs)) j) first last → k ≡ last + 1 →
+    IsBest m (Turns (over t o word_costs) j (Below (over t o word_costs) (address t k))) →
+    IsBest m (Round (net (over t o word_costs)) j)
+turns-done {m} t o word_costs j first last k is r h part sp e best =
+    turns-all t o word_costs j first last is r h part sp
+    (subst (λ k. IsBest m (Turns (over t o word_costs) j (Below (over t o word_costs) (address t
+    k)))) e best)
 
-pub base-lands : (t : Tree) (o : Positions) (ways : WaysOn) (j : LoopSetup) (base : Matrix) →
-    IsTree t → AreWays o ways →
-    IsBest (entry base) (Either (Stays (IsOwn o)) (Round (net (over t o ways)) j)) → (p c q : ℕ) →
+pub base-lands : (t : Tree) (o : Positions) (word_costs : CostsOn) (j : LoopSetup) (base : Matrix) →
+    IsTree t → AreWordCosts o word_costs →
+    IsBest (entry base) (Either (Stays (IsOwn o)) (Round (net (over t o word_costs)) j)) →
+    (p c q : ℕ) →
     In (entry base) p c q → IsOwn o q
-base-lands t o ways j base is are best p c q e =
-    let z = best.1 p c q e in either-lands (round-lands (over-nested t o ways is are) j) p z.0 q z.1
+base-lands t o word_costs j base is are best p c q e =
+    let z = best.1 p c q e in either-lands (round-lands (over-nested t o word_costs is are)
+    j) p z.0 q z.1

@@ -2,7 +2,7 @@ pub mod Bound
 pub mod Best
 pub mod Context
 pub mod Section
-pub mod Ways
+pub mod PathCosts
 pub mod Pass
 pub mod Limit
 pub mod Matrices

@@ -3,7 +3,7 @@ use Rattle.std.specs.Prelude.{◌≡◌, ℕ, ◌+◌, ◌<◌, ◌≤◌, ◌�
 use Rattle.bound_calc.specs.Best.{Costs, Stays}
 use Rattle.bound_calc.specs.Context.{Scope, body}
 use Rattle.bound_calc.specs.Section.{Field, net}
-use Rattle.bound_calc.specs.Ways.{Reaches}
+use Rattle.bound_calc.specs.PathCosts.{Reaches}
 use Rattle.fp_setup.specs.declared.loop_list.LoopSetup.{LoopSetup}
 use Rattle.region_tree.specs.Graph.{Edge, edge_to}
 

@@ -15,11 +15,11 @@ use Rattle.region_tree.specs.declared.edges.Edges.{Edges}
 use Rattle.bound_calc.specs.Best.{AreBest, Costs, Either, Then, Entries, In, IsBest, ceiling}
 use Rattle.bound_calc.specs.Context.{Scope, body, IsScope, IsNested}
 use Rattle.bound_calc.specs.Section.{Field, Steps, field, net, whole}
-use Rattle.bound_calc.specs.Ways.{Reaches, Rounds}
+use Rattle.bound_calc.specs.PathCosts.{Reaches, Rounds}
 use Rattle.bound_calc.specs.Pass.{Below, Comes}
 use Rattle.bound_calc.specs.Matrices.{entry}
 use Rattle.bound_calc.specs.Hops.{Hops, IsLargest}
-use Rattle.bound_calc.specs.declared.front.Front.{Front}
+use Rattle.bound_calc.specs.declared.frontier.Frontier.{Frontier}
 use Rattle.bound_calc.specs.declared.hop.Hop.{Hop}
 use Rattle.bound_calc.specs.declared.matrix.Matrix.{Matrix}
 
@@ -57,8 +57,8 @@ move_costs s None lag = Steps s lag
 move_costs s (Some m) lag = In (entry m)
 
 -- the matrices of the words that have costs of their own, by index
-abbrev pub WaysOn : Type 0
-WaysOn = ℕ → Option Matrix
+abbrev pub CostsOn : Type 0
+CostsOn = ℕ → Option Matrix
 
 -- the matrix with an index, if there is one
 abbrev pub matrix_of : List Matrix → Option ℕ → Option Matrix
@@ -67,23 +67,28 @@ matrix_of costs (Some i) =
     if nat_lt i (length costs) then Some (slice_index_or costs i no_matrix) else None
 
 -- matrices, and for the index of a word the index of its matrix
-pub record WayTable : Type 0 where
+pub record CostTable : Type 0 where
   pub indices : List (Option ℕ)
   pub costs : List Matrix
 
 -- the matrices of such a table, by index
-abbrev pub ways_on : WayTable → WaysOn
-ways_on w k = matrix_of w.costs (slice_index_or w.indices k None)
+abbrev pub costs_on : CostTable → CostsOn
+costs_on w k = matrix_of w.costs (slice_index_or w.indices k None)
 
 -- The same paths, where the words at some indices go on at the costs of a matrix.
-abbrev pub over : Tree → Positions → WaysOn → Field
-over t s ways =
-    record { graph = graph t; own = IsOwn s; move = λ u lag. move_costs s (ways (index t u)) lag }
+abbrev pub over : Tree → Positions → CostsOn → Field
+over t s word_costs =
+    record {
+      graph = graph t;
+      own = IsOwn s;
+      move = λ u lag. move_costs s (word_costs
+          (index t u)) lag;
+    }
 
 -- these matrices lead to the thread's own positions
-abbrev pub AreWays : Positions → WaysOn → Type 0
-AreWays s ways =
-    (k : ℕ) (m : Matrix) → ways k ≡ Some m → (p c q : ℕ) → In (entry m) p c q → IsOwn s q
+abbrev pub AreWordCosts : Positions → CostsOn → Type 0
+AreWordCosts s word_costs =
+    (k : ℕ) (m : Matrix) → word_costs k ≡ Some m → (p c q : ℕ) → In (entry m) p c q → IsOwn s q
 
 -- the part of a loop, or the whole section
 abbrev pub scope_of : Field → Option LoopSetup → Scope
@@ -105,13 +110,13 @@ up_of t k high (Some v) =
     if nat_lt (address t k) v && nat_le v (address t high) then Some (index t v) else None
 
 -- the frontier of a pass between two words
-pub record FrontModel : Type 0 where
+pub record FrontierModel : Type 0 where
   pub waiting : Powers
   pub base : Matrix
   pub hops : List (Option Hop)
 
-abbrev pub abstract_front : Front → FrontModel
-abstract_front f = record { waiting = f.waiting.items; base = f.base.value; hops = f.hops.hops }
+abbrev pub abstract_frontier : Frontier → FrontierModel
+abstract_frontier f = record { waiting = f.waiting.items; base = f.base.value; hops = f.hops.hops }
 
 -- the matrix that waited at an index, or a matrix without sums
 abbrev pub IsTaken : Option Matrix → Matrix → Type 0
@@ -131,12 +136,12 @@ abbrev pub Via : Option ℕ → ℕ → Costs → Costs
 Via to w f p c q = (to ≡ Some w) × f p c q
 
 -- the costs with which a frontier goes on to the next word
-abbrev pub FrontCosts : FrontModel → Costs
-FrontCosts f = Then (In (entry f.base)) (Hops f.hops)
+abbrev pub FrontierCosts : FrontierModel → Costs
+FrontierCosts f = Then (In (entry f.base)) (Hops f.hops)
 
 -- the costs of a frontier before the word at index n, at the word at index w
-abbrev pub Ahead : FrontModel → ℕ → ℕ → Costs
-Ahead f n w = Either (Waits f.waiting w) (λ p c q. (w ≡ n) × FrontCosts f p c q)
+abbrev pub Ahead : FrontierModel → ℕ → ℕ → Costs
+Ahead f n w = Either (Waits f.waiting w) (λ p c q. (w ≡ n) × FrontierCosts f p c q)
 
 -- the powers of the loops of a part whose heads are reachable
 pub record IsPowers (x : Field) (t : Tree) (s : Scope) (powers : Powers) : Type 0 where
@@ -147,13 +152,15 @@ pub record IsPowers (x : Field) (t : Tree) (s : Scope) (powers : Powers) : Type 
       (j : LoopSetup) × s.loops j × (address t k ≡ j.head) × Reachable x.graph (address t k)
 
 -- by index the costs at each word of the section
-pub record AreReached (t : Tree) (s : Positions) (ways : WaysOn) (at : List Matrix) : Type 0 where
+pub record AreReached (t : Tree) (s : Positions) (word_costs : CostsOn) (at : List Matrix)
+    : Type 0 where
   pub count : length at ≡ length t.words
   pub best : (k : ℕ) → k < length t.words →
-      IsBest (matrix_at at k) (Reaches (net (over t s ways)) (whole (over t s ways)) (address t k))
+      IsBest (matrix_at at k) (Reaches (net (over t s word_costs)) (whole (over t s word_costs))
+      (address t k))
 
 -- these costs were joined with those that wait at an edge's target
-pub record IsBrought (to : Option ℕ) (f : Costs) (old new : FrontModel) : Type 0 where
+pub record IsBrought (to : Option ℕ) (f : Costs) (old new : FrontierModel) : Type 0 where
   pub count : length new.waiting ≡ length old.waiting
   pub base : new.base ≡ old.base
   pub hops : new.hops ≡ old.hops
@@ -161,7 +168,7 @@ pub record IsBrought (to : Option ℕ) (f : Costs) (old new : FrontModel) : Type
 
 -- Before the word at index n of a part a frontier has the costs from below it at each word ahead.
 -- Its steps are those of at most n words.
-pub record IsFront (x : Field) (t : Tree) (s : Scope) (n : ℕ) (f : FrontModel) : Type 0 where
+pub record IsFrontier (x : Field) (t : Tree) (s : Scope) (n : ℕ) (f : FrontierModel) : Type 0 where
   pub count : length f.waiting ≡ length t.words
   pub positions : (p d q : ℕ) → Hops f.hops p d q → (p < 8) × (q < 8)
   pub short : (p d q : ℕ) → Hops f.hops p d q → d ≤ 10 * n
@@ -170,16 +177,16 @@ pub record IsFront (x : Field) (t : Tree) (s : Scope) (n : ℕ) (f : FrontModel)
 
 -- a word of straight code: nothing waits there, it has no power of a loop, and its only edge is to
 -- the next word, by the turns
-pub record IsStraight (t : Tree) (e : Edges) (k last : ℕ) (way power : Option Matrix)
-    (f : FrontModel) : Type 0 where
+pub record IsStraight (t : Tree) (e : Edges) (k last : ℕ) (edge_costs power : Option Matrix)
+    (f : FrontierModel) : Type 0 where
   pub jump : e.jump ≡ None
   pub next : up_of t k last e.next ≡ Some (k + 1)
-  pub no_way : way ≡ None
+  pub no_way : edge_costs ≡ None
   pub no_power : power ≡ None
   pub waits : power_at f.waiting k ≡ None
 
 -- a step was composed with those before it
-pub record IsSkipped (s : Positions) (lag : ℕ) (old new : FrontModel) : Type 0 where
+pub record IsSkipped (s : Positions) (lag : ℕ) (old new : FrontierModel) : Type 0 where
   pub frame : length s.frame ≤ 8
   pub waiting : new.waiting ≡ old.waiting
   pub base : new.base ≡ old.base
@@ -187,7 +194,7 @@ pub record IsSkipped (s : Positions) (lag : ℕ) (old new : FrontModel) : Type 0
 
 -- the costs of the frontier at a word were collected, and taken through the power of the loop whose
 -- head it is
-pub record IsArrived (power : Option Matrix) (k : ℕ) (old new : FrontModel) : Type 0 where
+pub record IsArrived (power : Option Matrix) (k : ℕ) (old new : FrontierModel) : Type 0 where
   pub count : length new.waiting ≡ length old.waiting
   pub others : (w : ℕ) → w ≢ k → power_at new.waiting w ≡ power_at old.waiting w
   pub joined : Matrix
@@ -195,25 +202,27 @@ pub record IsArrived (power : Option Matrix) (k : ℕ) (old new : FrontModel) : 
   pub here : IsThrough power joined new.base
 
 -- a frontier went on to the next word, at these costs
-pub record IsLed (s : Positions) (way : Option Matrix) (next : Option ℕ) (lag k : ℕ)
-    (old new : FrontModel) : Type 0 where
+pub record IsLed (s : Positions) (edge_costs : Option Matrix) (next : Option ℕ) (lag k : ℕ)
+    (old new : FrontierModel) : Type 0 where
   pub count : length new.waiting ≡ length old.waiting
   pub base : new.base ≡ old.base
   pub positions : (p d q : ℕ) → Hops new.hops p d q → (p < 8) × (q < 8)
   pub short : (p d q : ℕ) → Hops new.hops p d q → d ≤ 10
   pub ahead : (w : ℕ) → k < w → AreBest (Ahead new (k + 1) w) (Either (Waits old.waiting w)
-      (Via next w (Then (In (entry old.base)) (move_costs s way lag))))
+      (Via next w (Then (In (entry old.base)) (move_costs s edge_costs lag))))
 
 -- a frontier went on from a word along its edges
-pub record IsGone (t : Tree) (s : Positions) (way : Option Matrix) (e : Edges) (k last : ℕ)
-    (old new : FrontModel) : Type 0 where
+pub record IsGone (t : Tree) (s : Positions) (edge_costs : Option Matrix) (e : Edges) (k last : ℕ)
+    (old new : FrontierModel) : Type 0 where
   pub count : length new.waiting ≡ length old.waiting
   pub base : new.base ≡ old.base
   pub positions : (p d q : ℕ) → Hops new.hops p d q → (p < 8) × (q < 8)
   pub short : (p d q : ℕ) → Hops new.hops p d q → d ≤ 10
   pub ahead : (w : ℕ) → k < w → AreBest (Ahead new (k + 1) w) (Either (Either (Waits old.waiting w)
-      (Via (up_of t k last e.next) w (Then (In (entry old.base)) (move_costs s way e.next_lag))))
-      (Via (up_of t k last e.jump) w (Then (In (entry old.base)) (move_costs s way redirect_lag))))
+      (Via (up_of t k last e.next) w (Then (In (entry old.base)) (move_costs s edge_costs
+      e.next_lag))))
+      (Via (up_of t k last e.jump) w (Then (In (entry old.base)) (move_costs s edge_costs
+      redirect_lag))))
 
 -- the requirements of a pass over a part
 pub record IsReady (x : Field) (t : Tree) (s : Scope) (powers : Powers) : Type 0 where

@@ -11,13 +11,13 @@ ghost use Rattle.bound_calc.specs.declared.cycle_bound.BoundNo.TheVariants.{Over
 ghost use Rattle.bound_calc.specs.Section.{whole};
 ghost use Rattle.bound_calc.specs.Propagation.{IsMostFrom, IsOut, IsReady, leaves, over, walks};
 
-use crate::advance::{largest, leave};
+use crate::advanced::{largest, largest_advanced};
 use crate::fill::fill;
-use crate::front::Front;
+use crate::frontier::Frontier;
 use crate::matrix::Matrix;
 use crate::pass::{begin, edges_at, is_straight, process_word, skip, span_of};
 use crate::steps::Steps;
-use crate::ways::Ways;
+use crate::word_costs::WordCosts;
 use region_tree::{Edges, JUMP_LAG, LoopTree};
 use slot_table::SlotTable;
 use std::alloc::{AllocError, Global};
@@ -62,7 +62,7 @@ fn most_out(steps: &Steps, here: &Matrix, out: bool, lag: u64, most: u128) -> u1
     ensures { IsOut steps.now here.now out lag most result }
 {
     if out {
-        leave(here, steps.hops(lag), most)
+        largest_advanced(here, steps.hops(lag), most)
     } else {
         most
     }
@@ -86,28 +86,28 @@ fn most(
     tree: &LoopTree,
     steps: &Steps,
     powers: &[Option<Box<Matrix>>],
-    front: &mut Front,
+    frontier: &mut Frontier,
 ) -> Result<u128, AllocError>
     requires tree { IsTree tree.now }
     requires frame { length steps.now.frame ≤ 8 }
     requires slot { (p : ℕ) × IsOwn steps.now p }
     requires ready { let f = over tree.now steps.now (λ k. None) in
         IsReady f tree.now (whole f) powers.now }
-    requires room { length front.old.waiting.items ≡ length tree.now.words }
+    requires room { length frontier.old.waiting.items ≡ length tree.now.words }
     ensures { IfOk result (IsBound (walks tree.now steps.now)) }
 {
     let last = span_of(tree, None).last;
-    begin(alloc, tree, steps, None, front)?;
+    begin(alloc, tree, steps, None, frontier)?;
     let mut most = 0;
     for index in 0..last + 1 {
         let edges = edges_at(tree, index);
-        if is_straight(tree, &edges, index, last, None, &powers[index], front) {
-            most = leave(&front.base, &front.hops, most);
-            skip(steps, edges.next_lag, front);
+        if is_straight(tree, &edges, index, last, None, &powers[index], frontier) {
+            most = largest_advanced(&frontier.base, &frontier.hops, most);
+            skip(steps, edges.next_lag, frontier);
         } else {
             let power = &powers[index];
-            process_word(alloc, tree, steps, None, power, index, last, front)?;
-            most = most_from(tree, steps, &front.base, &edges, most);
+            process_word(alloc, tree, steps, None, power, index, last, frontier)?;
+            most = most_from(tree, steps, &frontier.base, &edges, most);
         }
     }
     Ok(most)
@@ -118,16 +118,16 @@ fn largest_cost_by(
     alloc: Global,
     tree: &LoopTree,
     steps: &Steps,
-    front: &mut Front,
+    frontier: &mut Frontier,
 ) -> Result<u128, AllocError>
     requires tree { IsTree tree.now }
     requires frame { length steps.now.frame ≤ 8 }
     requires slot { (p : ℕ) × IsOwn steps.now p }
-    requires room { length front.old.waiting.items ≡ length tree.now.words }
+    requires room { length frontier.old.waiting.items ≡ length tree.now.words }
     ensures { IfOk result (IsBound (walks tree.now steps.now)) }
 {
-    let powers = fill(alloc, tree, steps, &Ways::new(&[], &[]), front)?;
-    most(alloc, tree, steps, &powers, front)
+    let powers = fill(alloc, tree, steps, &WordCosts::new(&[], &[]), frontier)?;
+    most(alloc, tree, steps, &powers, frontier)
 }
 
 /// The largest cost of a path.
@@ -136,8 +136,8 @@ fn largest_cost(alloc: Global, tree: &LoopTree, steps: &Steps) -> Result<u128, A
     requires slot { (p : ℕ) × IsOwn steps.now p }
     ensures { IfOk result (IsBound (walks tree.now steps.now)) }
 {
-    let mut front = Front::new(alloc, span_of(tree, None).last + 1)?;
-    largest_cost_by(alloc, tree, steps, &mut front)
+    let mut frontier = Frontier::new(alloc, span_of(tree, None).last + 1)?;
+    largest_cost_by(alloc, tree, steps, &mut frontier)
 }
 
 /// Converts a bound to 64 bits; `Overflow` if it has more.

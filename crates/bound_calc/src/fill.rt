@@ -5,14 +5,14 @@ ghost use Rattle.std.specs.Prelude.{MatchOption, Contains, OnOk, IfOk};
 ghost use Rattle.region_tree.specs.Graph.{Reachable};
 ghost use Rattle.region_tree.specs.Search.{address};
 ghost use Rattle.region_tree.specs.Tree.{IsTree, graph};
-ghost use Rattle.bound_calc.specs.Propagation.{AreWays, IsFilled, index as index_of};
-ghost use Rattle.bound_calc.specs.Propagation.{over, power_at, ways_on};
+ghost use Rattle.bound_calc.specs.Propagation.{AreWordCosts, IsFilled, index as index_of};
+ghost use Rattle.bound_calc.specs.Propagation.{over, power_at, costs_on};
 
-use crate::front::Front;
+use crate::frontier::Frontier;
 use crate::matrix::Matrix;
 use crate::rounds::rounds;
 use crate::steps::Steps;
-use crate::ways::Ways;
+use crate::word_costs::WordCosts;
 use fp_setup::LoopSetup;
 use region_tree::LoopTree;
 use std::alloc::{AllocError, Global};
@@ -68,24 +68,24 @@ fn fill_word(
     alloc: Global,
     tree: &LoopTree,
     steps: &Steps,
-    ways: &Ways,
+    word_costs: &WordCosts,
     index: usize,
     powers: &mut [Option<Box<Matrix>>],
-    front: &mut Front,
+    frontier: &mut Frontier,
 ) -> Result<(), AllocError>
-    requires own { AreWays steps.now (ways_on ways.now) }
+    requires own { AreWordCosts steps.now (costs_on word_costs.now) }
     requires index { index < length tree.now.words }
-    requires filled { IsFilled (over tree.now steps.now (ways_on ways.now)) tree.now
+    requires filled { IsFilled (over tree.now steps.now (costs_on word_costs.now)) tree.now
         (index + 1) powers.old }
-    requires room { length front.old.waiting.items ≡ length tree.now.words }
-    ensures filled { OnOk result (IsFilled (over tree.now steps.now (ways_on ways.now))
+    requires room { length frontier.old.waiting.items ≡ length tree.now.words }
+    ensures filled { OnOk result (IsFilled (over tree.now steps.now (costs_on word_costs.now))
         tree.now index powers.new) }
-    ensures room { OnOk result (length front.new.waiting.items ≡ length tree.now.words) }
+    ensures room { OnOk result (length frontier.new.waiting.items ≡ length tree.now.words) }
 {
     let Some(j) = loop_from(tree, index) else {
         return Ok(());
     };
-    let power = rounds(alloc, tree, steps, ways, powers, j, front)?;
+    let power = rounds(alloc, tree, steps, word_costs, powers, j, frontier)?;
     powers[index] = Some(Box::new(alloc, power)?);
     Ok(())
 }
@@ -129,21 +129,21 @@ pub fn fill(
     alloc: Global,
     tree: &LoopTree,
     steps: &Steps,
-    ways: &Ways,
-    front: &mut Front,
+    word_costs: &WordCosts,
+    frontier: &mut Frontier,
 ) -> Result<Vec<Option<Box<Matrix>>>, AllocError>
     requires tree { IsTree tree.now }
-    requires own { AreWays steps.now (ways_on ways.now) }
-    requires room { length front.old.waiting.items ≡ length tree.now.words }
+    requires own { AreWordCosts steps.now (costs_on word_costs.now) }
+    requires room { length frontier.old.waiting.items ≡ length tree.now.words }
     ensures filled { IfOk result (λ powers.
-        IsFilled (over tree.now steps.now (ways_on ways.now)) tree.now 0 powers.items) }
-    ensures room { OnOk result (length front.new.waiting.items ≡ length tree.now.words) }
+        IsFilled (over tree.now steps.now (costs_on word_costs.now)) tree.now 0 powers.items) }
+    ensures room { OnOk result (length frontier.new.waiting.items ≡ length tree.now.words) }
 {
-    let mut index = front.waiting.len();
+    let mut index = frontier.waiting.len();
     let mut powers = empty(alloc, index)?;
     while index > 0 {
         index = index_below(tree, index);
-        fill_word(alloc, tree, steps, ways, index, &mut powers, front)?;
+        fill_word(alloc, tree, steps, word_costs, index, &mut powers, frontier)?;
     }
     Ok(powers)
 }

@@ -2,10 +2,10 @@
 
 #![tactic(auto)]
 
-mod advance;
+mod advanced;
 mod cycle_bound;
 mod fill;
-mod front;
+mod frontier;
 mod hop;
 mod laws;
 mod matrix;
@@ -15,9 +15,9 @@ mod reached;
 mod returns;
 mod rounds;
 mod steps;
-mod ways;
+mod word_costs;
 
-pub use advance::{largest, largest_through};
+pub use advanced::{largest, largest_through};
 pub use cycle_bound::{BoundNo, bound, is_out};
 pub use laws::{rounds_are_steps, stays_in_rounds};
 pub use matrix::Matrix;
@@ -25,4 +25,4 @@ pub use pass::{along, edges_at};
 pub use reached::{Pass, reach};
 pub use returns::{jump, through};
 pub use steps::{Steps, has_slot};
-pub use ways::Ways;
+pub use word_costs::WordCosts;

@@ -11,17 +11,17 @@ ghost use Rattle.bound_calc.specs.Context.{IsScope};
 ghost use Rattle.bound_calc.specs.Hops.{Hops};
 ghost use Rattle.bound_calc.specs.Section.{net};
 ghost use Rattle.bound_calc.specs.Matrices.{entry};
-ghost use Rattle.bound_calc.specs.Propagation.{IsArrived, IsBrought, IsFront, IsGone};
+ghost use Rattle.bound_calc.specs.Propagation.{IsArrived, IsBrought, IsFrontier, IsGone};
 ghost use Rattle.bound_calc.specs.Propagation.{IsLed, IsSkipped, IsSpan, IsStraight};
-ghost use Rattle.bound_calc.specs.Propagation.{IsTaken, IsThrough, edges_at, abstract_front};
+ghost use Rattle.bound_calc.specs.Propagation.{IsTaken, IsThrough, edges_at, abstract_frontier};
 ghost use Rattle.bound_calc.specs.Propagation.{move_costs, over, scope_of, power_at, up_of};
 
-use crate::advance::advance;
-use crate::front::Front;
+use crate::advanced::join_advanced;
+use crate::frontier::Frontier;
 use crate::hop::HopRow;
 use crate::matrix::Matrix;
 use crate::steps::Steps;
-use crate::ways::Ways;
+use crate::word_costs::WordCosts;
 use fp_setup::LoopSetup;
 use region_tree::{Edges, JUMP_LAG, LoopTree, edges_of};
 use std::alloc::{AllocError, Global};
@@ -39,8 +39,8 @@ pub struct Span {
 /// The indices of a loop, or of the whole section.
 pub fn span_of(tree: &LoopTree, around: Option<LoopSetup>) -> Span
     requires { IfSome around (λ j. Contains tree.now.loops j) }
-    ensures span { (s : _) → (ways : _) →
-        IsSpan tree.now (scope_of (over tree.now s ways) around) result.first result.last }
+    ensures span { (s : _) → (word_costs : _) →
+        IsSpan tree.now (scope_of (over tree.now s word_costs) around) result.first result.last }
     ensures order { result.first ≤ result.last }
     ensures inside { result.last < length tree.now.words }
     ensures rules { IsTree tree.now }
@@ -86,7 +86,7 @@ fn up_to(tree: &LoopTree, index: usize, last: usize, target: Option<u32>) -> Opt
 /// own costs, if it has any.
 pub(crate) fn join_along(
     steps: &Steps,
-    way: Option<&Matrix>,
+    edge_costs: Option<&Matrix>,
     here: &Matrix,
     lag: u64,
     onto: &mut Matrix,
@@ -94,23 +94,29 @@ pub(crate) fn join_along(
     requires lag { lag ≤ redirect_lag }
     ensures { IsBest (entry onto.new) (Either (In (entry onto.old))
         (Then (In (entry here.now)) (move_costs steps.now (option_map
-        (λ m. m.now) way.entry) lag))) }
+        (λ m. m.now) edge_costs.entry) lag))) }
 {
-    match way {
-        None => advance(here, steps.hops(lag), onto),
-        Some(way) => onto.join_chain(here, way),
+    match edge_costs {
+        None => join_advanced(here, steps.hops(lag), onto),
+        Some(edge_costs) => onto.join_chain(here, edge_costs),
     }
 }
 
 /// Joins a matrix with another that goes on from a word: by the turns after a lag, or by the word's
 /// own costs, if it has any.
-pub fn along(steps: &Steps, way: Option<&Matrix>, here: &Matrix, lag: u64, onto: &Matrix) -> Matrix
+pub fn along(
+    steps: &Steps,
+    edge_costs: Option<&Matrix>,
+    here: &Matrix,
+    lag: u64,
+    onto: &Matrix,
+) -> Matrix
     requires lag { lag ≤ redirect_lag }
     ensures { IsBest (entry result) (Either (In (entry onto.now)) (Then (In (entry here.now))
-        (move_costs steps.now (option_map (λ m. m.now) way.entry) lag))) }
+        (move_costs steps.now (option_map (λ m. m.now) edge_costs.entry) lag))) }
 {
     let mut joined = *onto;
-    join_along(steps, way, here, lag, &mut joined);
+    join_along(steps, edge_costs, here, lag, &mut joined);
     joined
 }
 
@@ -163,36 +169,36 @@ fn apply_rounds(power: &Option<Box<Matrix>>, here: &mut Matrix)
 fn bring(
     alloc: Global,
     steps: &Steps,
-    way: Option<&Matrix>,
+    edge_costs: Option<&Matrix>,
     to: Option<usize>,
     lag: u64,
-    front: &mut Front,
+    frontier: &mut Frontier,
 ) -> Result<(), AllocError>
     requires lag { lag ≤ redirect_lag }
-    requires within { IfSome to (λ k. k < length front.old.waiting.items) }
+    requires within { IfSome to (λ k. k < length frontier.old.waiting.items) }
     ensures { OnOk result (IsBrought to
-        (Then (In (entry (abstract_front front.old).base))
-        (move_costs steps.now (option_map (λ m. m.now) way.entry) lag))
-        (abstract_front front.old) (abstract_front front.new)) }
+        (Then (In (entry (abstract_frontier frontier.old).base))
+        (move_costs steps.now (option_map (λ m. m.now) edge_costs.entry) lag))
+        (abstract_frontier frontier.old) (abstract_frontier frontier.new)) }
 {
     let Some(to) = to else {
         return Ok(());
     };
-    let mut there = take(alloc, &mut front.waiting[to], &mut front.spare)?;
-    join_along(steps, way, &front.base, lag, &mut there);
-    front.waiting[to] = Some(there);
+    let mut there = take(alloc, &mut frontier.waiting[to], &mut frontier.spare)?;
+    join_along(steps, edge_costs, &frontier.base, lag, &mut there);
+    frontier.waiting[to] = Some(there);
     Ok(())
 }
 
 /// Drops the costs that wait at the words of a span.
-fn clear(span: Span, front: &mut Front)
-    requires { span.last < length front.old.waiting.items }
+fn clear(span: Span, frontier: &mut Frontier)
+    requires { span.last < length frontier.old.waiting.items }
     ensures none { (k : ℕ) → span.first ≤ k → k ≤ span.last →
-        power_at front.new.waiting.items k ≡ None }
-    ensures count { length front.new.waiting.items ≡ length front.old.waiting.items }
+        power_at frontier.new.waiting.items k ≡ None }
+    ensures count { length frontier.new.waiting.items ≡ length frontier.old.waiting.items }
 {
     for index in span.first..span.last + 1 {
-        front.waiting[index] = None;
+        frontier.waiting[index] = None;
     }
 }
 
@@ -206,18 +212,18 @@ pub fn begin(
     tree: &LoopTree,
     steps: &Steps,
     around: Option<LoopSetup>,
-    front: &mut Front,
+    frontier: &mut Frontier,
 ) -> Result<(), AllocError>
     requires known { IfSome around (λ j. Contains tree.now.loops j) }
-    requires room { length front.old.waiting.items ≡ length tree.now.words }
-    ensures { OnOk result ((ways : _) → let f = over tree.now steps.now ways in
+    requires room { length frontier.old.waiting.items ≡ length tree.now.words }
+    ensures { OnOk result ((word_costs : _) → let f = over tree.now steps.now word_costs in
         let s = scope_of f around in IsScope (net f) s → (k : ℕ) → s.low ≡ address tree.now k →
-        IsFront f tree.now s k (abstract_front front.new)) }
+        IsFrontier f tree.now s k (abstract_frontier frontier.new)) }
 {
     let span = span_of(tree, around);
-    clear(span, front);
-    front.waiting[span.first] = Some(Box::new(alloc, *steps.one())?);
-    front.hops = HopRow::NONE;
+    clear(span, frontier);
+    frontier.waiting[span.first] = Some(Box::new(alloc, *steps.one())?);
+    frontier.hops = HopRow::NONE;
     Ok(())
 }
 
@@ -239,33 +245,34 @@ pub fn is_straight(
     edges: &Edges,
     index: usize,
     last: usize,
-    way: Option<&Matrix>,
+    edge_costs: Option<&Matrix>,
     power: &Option<Box<Matrix>>,
-    front: &Front,
+    frontier: &Frontier,
 ) -> bool
     requires order { index ≤ last }
     requires within { last < length tree.now.words }
     requires edges { edges.now ≡ edges_at tree.now index }
-    requires room { length front.now.waiting.items ≡ length tree.now.words }
+    requires room { length frontier.now.waiting.items ≡ length tree.now.words }
     ensures { IsTrue result ↔ IsStraight tree.now (edges_at tree.now index) index last
-        (option_map (λ m. m.now) way.entry) (option_map (λ b. b.value) power.now)
-        (abstract_front front.now) }
+        (option_map (λ m. m.now) edge_costs.entry) (option_map (λ b. b.value) power.now)
+        (abstract_frontier frontier.now) }
 {
     leads_on(tree, edges, index, last)
-        && way.is_none()
+        && edge_costs.is_none()
         && power.is_none()
-        && front.waiting[index].is_none()
+        && frontier.waiting[index].is_none()
 }
 
 /// Passes a word of straight code: composes its step with the steps before it.
-pub fn skip(steps: &Steps, lag: u64, front: &mut Front)
+pub fn skip(steps: &Steps, lag: u64, frontier: &mut Frontier)
     requires lag { lag ≤ redirect_lag }
-    requires positions { (p d q : ℕ) → Hops (abstract_front front.old).hops p d q → (p < 8) ×
+    requires positions { (p d q : ℕ) → Hops (abstract_frontier frontier.old).hops p d q → (p < 8) ×
         (q < 8) }
-    requires short { (p d q : ℕ) → Hops (abstract_front front.old).hops p d q → d ≤ 2 ^ 31 }
-    ensures { IsSkipped steps.now lag (abstract_front front.old) (abstract_front front.new) }
+    requires short { (p d q : ℕ) → Hops (abstract_frontier frontier.old).hops p d q → d ≤ 2 ^ 31 }
+    ensures { IsSkipped steps.now lag (abstract_frontier frontier.old) (abstract_frontier
+        frontier.new) }
 {
-    front.hops = front.hops.then(steps.hops(lag));
+    frontier.hops = frontier.hops.then(steps.hops(lag));
 }
 
 /// Collects the costs at the word at an index: those that wait there and those that lead on to it.
@@ -278,44 +285,44 @@ fn arrive(
     alloc: Global,
     power: &Option<Box<Matrix>>,
     index: usize,
-    front: &mut Front,
+    frontier: &mut Frontier,
 ) -> Result<(), AllocError>
-    requires index { index < length front.old.waiting.items }
-    requires positions { (p d q : ℕ) → Hops (abstract_front front.old).hops p d q → (p < 8) ×
+    requires index { index < length frontier.old.waiting.items }
+    requires positions { (p d q : ℕ) → Hops (abstract_frontier frontier.old).hops p d q → (p < 8) ×
         (q < 8) }
     ensures { OnOk result (IsArrived (option_map (λ b. b.value) power.now) index
-        (abstract_front front.old) (abstract_front front.new)) }
+        (abstract_frontier frontier.old) (abstract_frontier frontier.new)) }
 {
-    let mut here = take(alloc, &mut front.waiting[index], &mut front.spare)?;
-    advance(&front.base, &front.hops, &mut here);
+    let mut here = take(alloc, &mut frontier.waiting[index], &mut frontier.spare)?;
+    join_advanced(&frontier.base, &frontier.hops, &mut here);
     apply_rounds(power, &mut here);
-    front.spare = Some(mem::replace(&mut front.base, here));
+    frontier.spare = Some(mem::replace(&mut frontier.base, here));
     Ok(())
 }
 
 /// Goes on to the next word. If that is at the next index, the edge is deferred: its steps are
 /// composed with those after it.
-fn lead(
+fn go_on(
     alloc: Global,
     steps: &Steps,
-    way: Option<&Matrix>,
+    edge_costs: Option<&Matrix>,
     next: Option<usize>,
     lag: u64,
     index: usize,
-    front: &mut Front,
+    frontier: &mut Frontier,
 ) -> Result<(), AllocError>
     requires lag { lag ≤ redirect_lag }
-    requires index { index < length front.old.waiting.items }
-    requires within { IfSome next (λ k. k < length front.old.waiting.items) }
-    ensures { OnOk result (IsLed steps.now (option_map (λ m. m.now) way.entry) next lag index
-        (abstract_front front.old) (abstract_front front.new)) }
+    requires index { index < length frontier.old.waiting.items }
+    requires within { IfSome next (λ k. k < length frontier.old.waiting.items) }
+    ensures { OnOk result (IsLed steps.now (option_map (λ m. m.now) edge_costs.entry) next lag index
+        (abstract_frontier frontier.old) (abstract_frontier frontier.new)) }
 {
-    if way.is_none() && is_index(next, index + 1) {
-        front.hops = *steps.hops(lag);
+    if edge_costs.is_none() && is_index(next, index + 1) {
+        frontier.hops = *steps.hops(lag);
         return Ok(());
     }
-    front.hops = HopRow::NONE;
-    bring(alloc, steps, way, next, lag, front)
+    frontier.hops = HopRow::NONE;
+    bring(alloc, steps, edge_costs, next, lag, frontier)
 }
 
 /// Goes on from the word at an index, along its edges to later words.
@@ -327,25 +334,33 @@ fn follow_edges(
     alloc: Global,
     tree: &LoopTree,
     steps: &Steps,
-    way: Option<&Matrix>,
+    edge_costs: Option<&Matrix>,
     edges: &Edges,
     index: usize,
     last: usize,
-    front: &mut Front,
+    frontier: &mut Frontier,
 ) -> Result<(), AllocError>
     requires lag { edges.now.next_lag ≤ redirect_lag }
     requires order { index ≤ last }
     requires within { last < length tree.now.words }
     requires edges { edges.now ≡ edges_at tree.now index }
-    requires room { length front.old.waiting.items ≡ length tree.now.words }
-    ensures { OnOk result (IsGone tree.now steps.now (option_map (λ m. m.now) way.entry)
-        (edges_at tree.now index) index last (abstract_front front.old)
-        (abstract_front front.new)) }
+    requires room { length frontier.old.waiting.items ≡ length tree.now.words }
+    ensures { OnOk result (IsGone tree.now steps.now (option_map (λ m. m.now) edge_costs.entry)
+        (edges_at tree.now index) index last (abstract_frontier frontier.old)
+        (abstract_frontier frontier.new)) }
 {
     let next = up_to(tree, index, last, edges.next);
-    lead(alloc, steps, way, next, edges.next_lag, index, front)?;
+    go_on(
+        alloc,
+        steps,
+        edge_costs,
+        next,
+        edges.next_lag,
+        index,
+        frontier,
+    )?;
     let jump = up_to(tree, index, last, edges.jump);
-    bring(alloc, steps, way, jump, JUMP_LAG, front)
+    bring(alloc, steps, edge_costs, jump, JUMP_LAG, frontier)
 }
 
 /// Processes the word at an index: collects the costs there, and goes on along its edges to later
@@ -358,23 +373,26 @@ pub fn process_word(
     alloc: Global,
     tree: &LoopTree,
     steps: &Steps,
-    way: Option<&Matrix>,
+    edge_costs: Option<&Matrix>,
     power: &Option<Box<Matrix>>,
     index: usize,
     last: usize,
-    front: &mut Front,
+    frontier: &mut Frontier,
 ) -> Result<(), AllocError>
     requires order { index ≤ last }
     requires within { last < length tree.now.words }
-    requires room { length front.old.waiting.items ≡ length tree.now.words }
-    requires positions { (p d q : ℕ) → Hops (abstract_front front.old).hops p d q → (p < 8) ×
+    requires room { length frontier.old.waiting.items ≡ length tree.now.words }
+    requires positions { (p d q : ℕ) → Hops (abstract_frontier frontier.old).hops p d q → (p < 8) ×
         (q < 8) }
     ensures { OnOk result ((here : _) ×
-        IsArrived (option_map (λ b. b.value) power.now) index (abstract_front front.old) here ×
-        IsGone tree.now steps.now (option_map (λ m. m.now) way.entry)
-        (edges_at tree.now index) index last here (abstract_front front.new)) }
+        IsArrived (option_map (λ b. b.value) power.now) index (abstract_frontier frontier.old) here
+        ×
+        IsGone tree.now steps.now (option_map (λ m. m.now) edge_costs.entry)
+        (edges_at tree.now index) index last here (abstract_frontier frontier.new)) }
 {
-    arrive(alloc, power, index, front)?;
+    arrive(alloc, power, index, frontier)?;
     let edges = edges_at(tree, index);
-    follow_edges(alloc, tree, steps, way, &edges, index, last, front)
+    follow_edges(
+        alloc, tree, steps, edge_costs, &edges, index, last, frontier,
+    )
 }

@@ -5,14 +5,14 @@ ghost use Rattle.region_tree.specs.Tree.{IsTree};
 ghost use Rattle.bound_calc.specs.Best.{IsBest};
 ghost use Rattle.bound_calc.specs.Matrices.{entry};
 ghost use Rattle.bound_calc.specs.Passing.{IsPass, ReachesAt, here};
-ghost use Rattle.bound_calc.specs.Propagation.{AreReached, AreWays, ways_on};
+ghost use Rattle.bound_calc.specs.Propagation.{AreReached, AreWordCosts, costs_on};
 
 use crate::fill::fill;
-use crate::front::Front;
+use crate::frontier::Frontier;
 use crate::matrix::Matrix;
 use crate::pass::{begin, process_word, span_of};
 use crate::steps::Steps;
-use crate::ways::Ways;
+use crate::word_costs::WordCosts;
 use region_tree::LoopTree;
 use std::alloc::{AllocError, Global};
 
@@ -21,7 +21,7 @@ use std::alloc::{AllocError, Global};
 #[derive(Drop)]
 pub struct Pass {
     powers: Vec<Option<Box<Matrix>>>,
-    front: Front,
+    frontier: Frontier,
 }
 
 impl Pass {
@@ -30,10 +30,10 @@ impl Pass {
     ghost use Rattle.bound_calc.specs.Best.{IsBest};
     ghost use Rattle.bound_calc.specs.Matrices.{entry};
     ghost use Rattle.bound_calc.specs.Passing.{IsPass, ReachesAt, here};
-    ghost use Rattle.bound_calc.specs.Propagation.{AreWays, ways_on};
+    ghost use Rattle.bound_calc.specs.Propagation.{AreWordCosts, costs_on};
 
-    /// A pass before the first word. The words of `ways` go on at costs of their own, which lead to
-    /// positions of the thread.
+    /// A pass before the first word. The words of `word_costs` go on at costs of their own, which
+    /// lead to positions of the thread.
     ///
     /// # Errors
     ///
@@ -42,16 +42,16 @@ impl Pass {
         alloc: Global,
         tree: &LoopTree,
         steps: &Steps,
-        ways: &Ways,
+        word_costs: &WordCosts,
     ) -> Result<Pass, AllocError>
-        requires own { AreWays steps.now (ways_on ways.now) }
-        ensures start { IfOk result (IsPass tree.now steps.now (ways_on ways.now) 0) }
+        requires own { AreWordCosts steps.now (costs_on word_costs.now) }
+        ensures start { IfOk result (IsPass tree.now steps.now (costs_on word_costs.now) 0) }
         ensures rules { IsTree tree.now }
     {
-        let mut front = Front::new(alloc, span_of(tree, None).last + 1)?;
-        let powers = fill(alloc, tree, steps, ways, &mut front)?;
-        begin(alloc, tree, steps, None, &mut front)?;
-        Ok(Pass { powers, front })
+        let mut frontier = Frontier::new(alloc, span_of(tree, None).last + 1)?;
+        let powers = fill(alloc, tree, steps, word_costs, &mut frontier)?;
+        begin(alloc, tree, steps, None, &mut frontier)?;
+        Ok(Pass { powers, frontier })
     }
 
     /// Computes the costs at the word at an index, which is the next one. [`Pass::here`] returns
@@ -65,22 +65,22 @@ impl Pass {
         alloc: Global,
         tree: &LoopTree,
         steps: &Steps,
-        ways: &Ways,
+        word_costs: &WordCosts,
         index: usize,
     ) -> Result<(), AllocError>
         requires tree { IsTree tree.now }
         requires inside { index < length tree.now.words }
-        requires before { IsPass tree.now steps.now (ways_on ways.now) index self.old }
+        requires before { IsPass tree.now steps.now (costs_on word_costs.now) index self.old }
         ensures after { OnOk result
-            (IsPass tree.now steps.now (ways_on ways.now) (index + 1) self.new) }
+            (IsPass tree.now steps.now (costs_on word_costs.now) (index + 1) self.new) }
         ensures here { OnOk result (IsBest (entry (here self.new))
-            (ReachesAt tree.now steps.now (ways_on ways.now) index)) }
+            (ReachesAt tree.now steps.now (costs_on word_costs.now) index)) }
     {
         let last = span_of(tree, None).last;
-        let way = ways.at(index);
+        let edge_costs = word_costs.at(index);
         let power = &self.powers[index];
-        let front = &mut self.front;
-        process_word(alloc, tree, steps, way, power, index, last, front)?;
+        let frontier = &mut self.frontier;
+        process_word(alloc, tree, steps, edge_costs, power, index, last, frontier)?;
         Ok(())
     }
 
@@ -88,12 +88,12 @@ impl Pass {
     pub fn here(&self) -> &Matrix
         ensures { result.now ≡ here self.now }
     {
-        &self.front.base
+        &self.frontier.base
     }
 }
 
-/// By index the largest costs of paths to each word of the section. The words of `ways` go on at
-/// costs of their own, which lead to positions of the thread.
+/// By index the largest costs of paths to each word of the section. The words of `word_costs` go on
+/// at costs of their own, which lead to positions of the thread.
 ///
 /// # Errors
 ///
@@ -102,18 +102,18 @@ pub fn reach(
     alloc: Global,
     tree: &LoopTree,
     steps: &Steps,
-    ways: &Ways,
+    word_costs: &WordCosts,
 ) -> Result<Vec<Matrix>, AllocError>
-    requires own { AreWays steps.now (ways_on ways.now) }
+    requires own { AreWordCosts steps.now (costs_on word_costs.now) }
     ensures reached { IfOk result (λ at.
-        AreReached tree.now steps.now (ways_on ways.now) at.items) }
+        AreReached tree.now steps.now (costs_on word_costs.now) at.items) }
     ensures rules { IsTree tree.now }
 {
-    let mut pass = Pass::new(alloc, tree, steps, ways)?;
+    let mut pass = Pass::new(alloc, tree, steps, word_costs)?;
     let count = span_of(tree, None).last + 1;
     let mut at = Vec::with_capacity(alloc, count)?;
     for index in 0..count {
-        pass.visit(alloc, tree, steps, ways, index)?;
+        pass.visit(alloc, tree, steps, word_costs, index)?;
         at.push(*pass.here())?;
     }
     Ok(at)

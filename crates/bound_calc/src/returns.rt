@@ -7,7 +7,7 @@ ghost use Rattle.bound_calc.specs.Matrices.{entry};
 ghost use Rattle.bound_calc.specs.Propagation.{Ended, EndedHere};
 ghost use Rattle.bound_calc.specs.Section.{Steps as StepsAfter};
 
-use crate::advance::advance;
+use crate::advanced::join_advanced;
 use crate::matrix::Matrix;
 use crate::steps::Steps;
 use region_tree::JUMP_LAG;
@@ -17,7 +17,7 @@ pub fn jump(steps: &Steps) -> Matrix
     ensures { IsBest (entry result) (StepsAfter steps.now redirect_lag) }
 {
     let mut jumped = Matrix::NONE;
-    advance(steps.one(), steps.hops(JUMP_LAG), &mut jumped);
+    join_advanced(steps.one(), steps.hops(JUMP_LAG), &mut jumped);
     jumped
 }
 
@@ -38,6 +38,6 @@ fn end(steps: &Steps, is_end: bool, here: &Matrix, back: &mut Matrix)
     ensures { EndedHere steps.now is_end here.now back.old back.new }
 {
     if is_end {
-        advance(here, steps.hops(JUMP_LAG), back);
+        join_advanced(here, steps.hops(JUMP_LAG), back);
     }
 }

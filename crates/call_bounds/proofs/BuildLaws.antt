@@ -2,7 +2,7 @@
 use Rattle.region_tree.specs.Refusals.{Nowhere}
 use Rattle.call_bounds.specs.CallRefusals.{EscapeAt, IsCallable}
 use Rattle.call_bounds.specs.CallRefused.{IsCallRefused, IsTreeRefused}
-use Rattle.call_bounds.specs.CallRefused.{AreCallsAllowed, ArePartsAllowed}
+use Rattle.call_bounds.specs.CallRefused.{AreCallsAllowed, AreFunctionsAllowed}
 use Rattle.call_bounds.specs.Calls.{Calls}
 use Rattle.call_bounds.specs.declared.tree.CallNo.{CallNo}
 
@@ -19,7 +19,7 @@ call-refused x (CallNo.Recursion a) n h = absurd h
 call-refused x (CallNo.Escape a) n h = absurd h
 
 -- no cause of refusal
-pub callable : (x : Calls) → AreCallsAllowed x → ArePartsAllowed x →
+pub callable : (x : Calls) → AreCallsAllowed x → AreFunctionsAllowed x →
     Nowhere (EscapeAt x) → IsCallable x
 callable x n t e = record {
   overlap = n.0;

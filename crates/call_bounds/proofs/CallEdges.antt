@@ -10,8 +10,8 @@ use Rattle.region_tree.specs.Refusals.{UnboundedAt}
 use Rattle.region_tree.specs.Nesting.{EnteredAt}
 use Rattle.region_tree.specs.Tree.{IsSection, counts}
 use Rattle.call_bounds.specs.declared.routines.Routine.{Routine}
-use Rattle.call_bounds.specs.Calls.{Calls, Part, callee, inner_edges}
-use Rattle.call_bounds.specs.Calls.{part, plain_edges, plain_unless, range}
+use Rattle.call_bounds.specs.Calls.{Calls, Function, callee, inner_edges}
+use Rattle.call_bounds.specs.Calls.{function, plain_edges, plain_unless, range}
 use Rattle.call_bounds.proofs.Agree.{reach}
 use Rattle.call_bounds.proofs.Composed.{agrees-back}
 
@@ -24,7 +24,7 @@ plain-or (Some t) u edges e h other =
     subst (λ i. slice_index_or (record { to = u + 4; lag = 3 } ∷ []) i e ≡ e) z h.2 in
     absurd (other (sym (ap (λ (y : Edge). y.to) same)))
 
-pub unbounded-plain : (x : Calls) (a : Part) (u : ℕ) → (h : UnboundedAt (part x a) u) →
+pub unbounded-plain : (x : Calls) (a : Function) (u : ℕ) → (h : UnboundedAt (function x a) u) →
     Contains (plain_edges x u) h.by
 unbounded-plain x a u h =
     plain-or (callee x u) u (edge_list (edges_of (x.word u) u)) h.by h.edge
@@ -39,8 +39,8 @@ next-not j u v is align held out other e =
     let h = held.1 in
     (omega arith, omega arith))
 
-pub entered-plain : (x : Calls) (a : Part) (address : ℕ) → IsSection (range x a) →
-    AreLoops x.loops → (h : EnteredAt (part x a) address) → Contains (plain_edges x h.from) h.by
+pub entered-plain : (x : Calls) (a : Function) (address : ℕ) → IsSection (range x a) →
+    AreLoops x.loops → (h : EnteredAt (function x a) address) → Contains (plain_edges x h.from) h.by
 entered-plain x a address is rules h =
     let rule : IsLoop h.entered = All-contains IsLoop (filter (counts (range x a)) x.loops)
     h.entered (All-filter (counts (range x a)) IsLoop x.loops rules.each) h.known in

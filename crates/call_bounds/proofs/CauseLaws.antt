@@ -8,12 +8,13 @@ use Rattle.region_tree.specs.Search.{Before, LowestOf, lower_of}
 use Rattle.region_tree.specs.Tree.{IsSection, graph}
 use Rattle.region_tree.specs.declared.tree.TreeNo.{TreeNo}
 use Rattle.region_tree.proofs.LowestLaws.{lowest-next, lowest-same}
-use Rattle.call_bounds.specs.Build.{AreCauses, InPart, IsCauseOf, IsFirst, join_causes, no_causes}
-use Rattle.call_bounds.specs.CallRefusals.{InParts}
-use Rattle.call_bounds.specs.CallRefused.{IsTreeRefused, ArePartsAllowed}
-use Rattle.call_bounds.specs.Calls.{IsReached, part, range}
-use Rattle.call_bounds.specs.Listing.{Listing, calls, part_at, part_count}
-use Rattle.call_bounds.specs.Patched.{part_tree}
+use Rattle.call_bounds.specs.Build.{AreCauses, InFunction, IsCauseOf, IsFirst, join_causes}
+use Rattle.call_bounds.specs.Build.{no_causes}
+use Rattle.call_bounds.specs.CallRefusals.{InFunctions}
+use Rattle.call_bounds.specs.CallRefused.{IsTreeRefused, AreFunctionsAllowed}
+use Rattle.call_bounds.specs.Calls.{IsReached, function, range}
+use Rattle.call_bounds.specs.Listing.{Listing, calls, function_at, function_count}
+use Rattle.call_bounds.specs.Patched.{function_tree}
 use Rattle.call_bounds.specs.declared.causes.Causes.{Causes}
 use Rattle.call_bounds.specs.declared.tree.CallNo.{CallNo}
 use Rattle.call_bounds.proofs.Numbers.{reached-number}
@@ -26,22 +27,25 @@ lower-none None (Some y) h = cc
 lower-none (Some x) None h = cc
 lower-none (Some x) (Some y) h = cc
 
-pub causes-next : (l : Listing) (c : ℕ) (f g : Causes) → AreCauses (λ P. Before (InPart l P) c) f →
-    AreCauses (λ P. InPart l P c) g → AreCauses (λ P. Before (InPart l P) (c + 1)) (join_causes f g)
+pub causes-next : (l : Listing) (c : ℕ) (f g : Causes) → AreCauses (λ P. Before
+    (InFunction l P) c) f →
+    AreCauses (λ P. InFunction l P c) g → AreCauses (λ P. Before (InFunction l P) (c + 1))
+    (join_causes f g)
 causes-next l c f g a b = record {
-  nesting = lowest-next (InPart l NestingAt) c f.nesting g.nesting a.nesting b.nesting;
+  nesting = lowest-next (InFunction l NestingAt) c f.nesting g.nesting a.nesting b.nesting;
   indirect =
       λ e. let z = lower-none f.nesting g.nesting e in
-      lowest-next (InPart l IndirectAt) c f.indirect g.indirect (a.indirect z.0) (b.indirect z.1);
+      lowest-next (InFunction l IndirectAt) c f.indirect g.indirect (a.indirect z.0)
+      (b.indirect z.1);
   timed =
       λ e h. let z = lower-none f.nesting g.nesting e in
       let y = lower-none f.indirect g.indirect h in
-      lowest-next (InPart l TimedAt) c f.timed g.timed (a.timed z.0 y.0) (b.timed z.1 y.1);
+      lowest-next (InFunction l TimedAt) c f.timed g.timed (a.timed z.0 y.0) (b.timed z.1 y.1);
   unbounded =
       λ e h m. let z = lower-none f.nesting g.nesting e in
       let y = lower-none f.indirect g.indirect h in
       let x = lower-none f.timed g.timed m in
-      lowest-next (InPart l UnboundedAt) c f.unbounded g.unbounded (a.unbounded z.0 y.0 x.0)
+      lowest-next (InFunction l UnboundedAt) c f.unbounded g.unbounded (a.unbounded z.0 y.0 x.0)
       (b.unbounded z.1 y.1 x.1);
 }
 
@@ -55,10 +59,10 @@ joined-none f g e =
       λ k. record { nesting = n.1 k; indirect = i.1 k; timed = t.1 k; unbounded = u.1 k },
     )
 
-none-before : (l : Listing) (P : Graph → ℕ → Type 0) → Nowhere (Before (InPart l P) 0)
+none-before : (l : Listing) (P : Graph → ℕ → Type 0) → Nowhere (Before (InFunction l P) 0)
 none-before l P a h = absurd (omega (arith, h.1))
 
-pub causes-start : (l : Listing) → AreCauses (λ P. Before (InPart l P) 0) no_causes
+pub causes-start : (l : Listing) → AreCauses (λ P. Before (InFunction l P) 0) no_causes
 causes-start l = record {
   nesting = none-before l NestingAt;
   indirect = λ e. none-before l IndirectAt;
@@ -68,17 +72,18 @@ causes-start l = record {
 
 -- of one function
 lowest-in : (l : Listing) (k : ℕ) (P : Graph → ℕ → Type 0) (a : ℕ) →
-    IsReached (calls l) (part_at l k) → IsSame P (calls l) (part_at l k) →
-    IsLowest (P (graph (part_tree (calls l) (part_at l k)))) a → IsLowest (InPart l P k) a
+    IsReached (calls l) (function_at l k) → IsSame P (calls l) (function_at l k) →
+    IsLowest (P (graph (function_tree (calls l) (function_at l k)))) a →
+    IsLowest (InFunction l P k) a
 lowest-in l k P a r s low =
     record { holds = (r, s.there a low.holds); lowest = λ b h. low.lowest b (s.back b h.1) }
 
-nowhere-in : (l : Listing) (k : ℕ) (P : Graph → ℕ → Type 0) → IsSame P (calls l) (part_at l k) →
-    Nowhere (P (graph (part_tree (calls l) (part_at l k)))) → Nowhere (InPart l P k)
+nowhere-in : (l : Listing) (k : ℕ) (P : Graph → ℕ → Type 0) → IsSame P (calls l) (function_at l k) →
+    Nowhere (P (graph (function_tree (calls l) (function_at l k)))) → Nowhere (InFunction l P k)
 nowhere-in l k P s none a h = none a (s.back a h.1)
 
-pub causes-other : (l : Listing) (k : ℕ) → (IsReached (calls l) (part_at l k) → ⊥) →
-    AreCauses (λ P. InPart l P k) no_causes
+pub causes-other : (l : Listing) (k : ℕ) → (IsReached (calls l) (function_at l k) → ⊥) →
+    AreCauses (λ P. InFunction l P k) no_causes
 causes-other l k out = record {
   nesting = λ a h. out h.0;
   indirect = λ e a h. out h.0;
@@ -86,10 +91,11 @@ causes-other l k out = record {
   unbounded = λ e m n a h. out h.0;
 }
 
-pub causes-allowed : (l : Listing) (k : ℕ) → IsSection (range (calls l) (part_at l k)) →
-    IsAllowed (graph (part_tree (calls l) (part_at l k))) → AreCauses (λ P. InPart l P k) no_causes
+pub causes-allowed : (l : Listing) (k : ℕ) → IsSection (range (calls l) (function_at l k)) →
+    IsAllowed (graph (function_tree (calls l) (function_at l k))) → AreCauses (λ P. InFunction l P
+    k) no_causes
 causes-allowed l k is ok =
-    let x = calls l in let p = part_at l k in
+    let x = calls l in let p = function_at l k in
     record {
       nesting = nowhere-in l k NestingAt (nesting-same x p is) ok.nesting;
       indirect = λ e. nowhere-in l k IndirectAt (indirect-same x p is) ok.indirect;
@@ -98,61 +104,66 @@ causes-allowed l k is ok =
     }
 
 pub causes-refused : (l : Listing) (k : ℕ) (t : TreeNo) (f : Causes) →
-    IsSection (range (calls l) (part_at l k)) → IsReached (calls l) (part_at l k) →
-    IsRefused (graph (part_tree (calls l) (part_at l k))) t → IsCauseOf t f →
-    AreCauses (λ P. InPart l P k) f
-causes-refused l k (TreeNo.Nesting a) f is r h e = subst (AreCauses (λ P. InPart l P k)) (sym e)
+    IsSection (range (calls l) (function_at l k)) → IsReached (calls l) (function_at l k) →
+    IsRefused (graph (function_tree (calls l) (function_at l k))) t → IsCauseOf t f →
+    AreCauses (λ P. InFunction l P k) f
+causes-refused l k (TreeNo.Nesting a) f is r h e = subst (AreCauses (λ P. InFunction l P k)) (sym e)
     (record {
-      nesting = lowest-in l k NestingAt a r (nesting-same (calls l) (part_at l k) is) h;
+      nesting = lowest-in l k NestingAt a r (nesting-same (calls l) (function_at l k) is) h;
       indirect = λ e. cc;
       timed = λ e m. cc;
       unbounded = λ e m n. cc;
     })
 causes-refused l k (TreeNo.IndirectJump a) f is r h e =
-    subst (AreCauses (λ P. InPart l P k)) (sym e) (record {
-      nesting = nowhere-in l k NestingAt (nesting-same (calls l) (part_at l k) is) h.0;
-      indirect = λ e. lowest-in l k IndirectAt a r (indirect-same (calls l) (part_at l k) is) h.1;
+    subst (AreCauses (λ P. InFunction l P k)) (sym e) (record {
+      nesting = nowhere-in l k NestingAt (nesting-same (calls l) (function_at l k) is) h.0;
+      indirect = λ e. lowest-in l k IndirectAt a r (indirect-same (calls l) (function_at
+          l k) is) h.1;
       timed = λ e m. cc;
       unbounded = λ e m n. cc;
     })
-causes-refused l k (TreeNo.TimedWait a) f is r h e = subst (AreCauses (λ P. InPart l P k)) (sym e)
+causes-refused l k (TreeNo.TimedWait a) f is r h e = subst (AreCauses (λ P. InFunction l
+    P k)) (sym e)
     (record {
-      nesting = nowhere-in l k NestingAt (nesting-same (calls l) (part_at l k) is) h.0;
-      indirect = λ e. nowhere-in l k IndirectAt (indirect-same (calls l) (part_at l k) is) h.1;
-      timed = λ e m. lowest-in l k TimedAt a r (timed-same (calls l) (part_at l k) is) h.2;
+      nesting = nowhere-in l k NestingAt (nesting-same (calls l) (function_at l k) is) h.0;
+      indirect = λ e. nowhere-in l k IndirectAt (indirect-same (calls l) (function_at l k) is) h.1;
+      timed = λ e m. lowest-in l k TimedAt a r (timed-same (calls l) (function_at l k) is) h.2;
       unbounded = λ e m n. cc;
     })
 causes-refused l k (TreeNo.UnboundedBackEdge a) f is r h e =
-    subst (AreCauses (λ P. InPart l P k)) (sym e) (record {
-      nesting = nowhere-in l k NestingAt (nesting-same (calls l) (part_at l k) is) h.0;
-      indirect = λ e. nowhere-in l k IndirectAt (indirect-same (calls l) (part_at l k) is) h.1;
-      timed = λ e m. nowhere-in l k TimedAt (timed-same (calls l) (part_at l k) is) h.2;
+    subst (AreCauses (λ P. InFunction l P k)) (sym e) (record {
+      nesting = nowhere-in l k NestingAt (nesting-same (calls l) (function_at l k) is) h.0;
+      indirect = λ e. nowhere-in l k IndirectAt (indirect-same (calls l) (function_at l k) is) h.1;
+      timed = λ e m. nowhere-in l k TimedAt (timed-same (calls l) (function_at l k) is) h.2;
       unbounded =
-          λ e m n. lowest-in l k UnboundedAt a r (unbounded-same (calls l) (part_at l k) is) h.3;
+          λ e m n. lowest-in l k UnboundedAt a r (unbounded-same (calls l) (function_at
+          l k) is) h.3;
     })
 causes-refused l k TreeNo.NoMemory f is r h e = absurd e
 
 -- of all functions
-all-parts : (l : Listing) (P : Graph → ℕ → Type 0) (r : Option ℕ) →
-    LowestOf (Before (InPart l P) (part_count l)) r → LowestOf (InParts (calls l) P) r
-all-parts l P r = lowest-same (Before (InPart l P) (part_count l)) (InParts (calls l) P) r
-    (λ a h. record { within = part_at l h.0; reached = h.2.0; holds = h.2.1 })
+all-functions : (l : Listing) (P : Graph → ℕ → Type 0) (r : Option ℕ) →
+    LowestOf (Before (InFunction l P) (function_count l)) r → LowestOf (InFunctions (calls l) P) r
+all-functions l P r = lowest-same (Before (InFunction l P) (function_count l)) (InFunctions
+    (calls l) P) r
+    (λ a h. record { within = function_at l h.0; reached = h.2.0; holds = h.2.1 })
     (λ a h. let z = reached-number l h.within h.reached in (
       z.0,
       z.1,
       (
         subst (λ p. IsReached (calls l) p) (sym z.2) h.reached,
-        subst (λ p. P (part (calls l) p) a) (sym z.2) h.holds,
+        subst (λ p. P (function (calls l) p) a) (sym z.2) h.holds,
       ),
     ))
 
-causes-all : (l : Listing) (f : Causes) → AreCauses (λ P. Before (InPart l P) (part_count l)) f →
-    AreCauses (InParts (calls l)) f
+causes-all : (l : Listing) (f : Causes) → AreCauses (λ P. Before (InFunction l P)
+    (function_count l)) f →
+    AreCauses (InFunctions (calls l)) f
 causes-all l f c = record {
-  nesting = all-parts l NestingAt f.nesting c.nesting;
-  indirect = λ e. all-parts l IndirectAt f.indirect (c.indirect e);
-  timed = λ e h. all-parts l TimedAt f.timed (c.timed e h);
-  unbounded = λ e h m. all-parts l UnboundedAt f.unbounded (c.unbounded e h m);
+  nesting = all-functions l NestingAt f.nesting c.nesting;
+  indirect = λ e. all-functions l IndirectAt f.indirect (c.indirect e);
+  timed = λ e h. all-functions l TimedAt f.timed (c.timed e h);
+  unbounded = λ e h m. all-functions l UnboundedAt f.unbounded (c.unbounded e h m);
 }
 
 first-of : (D : (Graph → ℕ → Type 0) → ℕ → Type 0) (P : Graph → ℕ → Type 0) (o : Option ℕ) (a : ℕ) →
@@ -163,23 +174,25 @@ none-of : (D : (Graph → ℕ → Type 0) → ℕ → Type 0) (P : Graph → ℕ
     o ≡ None → LowestOf (D P) o → Nowhere (D P)
 none-of D P o e low = subst (LowestOf (D P)) e low
 
-refused : (l : Listing) (f : Causes) (c : CallNo) → AreCauses (InParts (calls l)) f → IsFirst f c →
+refused : (l : Listing) (f : Causes) (c : CallNo) → AreCauses (InFunctions (calls l)) f →
+    IsFirst f c →
     IsTreeRefused (calls l) c
-refused l f (CallNo.Nesting a) c h = first-of (InParts (calls l)) NestingAt f.nesting a h c.nesting
+refused l f (CallNo.Nesting a) c h = first-of (InFunctions (calls l)) NestingAt f.nesting
+    a h c.nesting
 refused l f (CallNo.IndirectJump a) c h = (
-  none-of (InParts (calls l)) NestingAt f.nesting h.0 c.nesting,
-  first-of (InParts (calls l)) IndirectAt f.indirect a h.1 (c.indirect h.0),
+  none-of (InFunctions (calls l)) NestingAt f.nesting h.0 c.nesting,
+  first-of (InFunctions (calls l)) IndirectAt f.indirect a h.1 (c.indirect h.0),
 )
 refused l f (CallNo.TimedWait a) c h = (
-  none-of (InParts (calls l)) NestingAt f.nesting h.0 c.nesting,
-  none-of (InParts (calls l)) IndirectAt f.indirect h.1 (c.indirect h.0),
-  first-of (InParts (calls l)) TimedAt f.timed a h.2 (c.timed h.0 h.1),
+  none-of (InFunctions (calls l)) NestingAt f.nesting h.0 c.nesting,
+  none-of (InFunctions (calls l)) IndirectAt f.indirect h.1 (c.indirect h.0),
+  first-of (InFunctions (calls l)) TimedAt f.timed a h.2 (c.timed h.0 h.1),
 )
 refused l f (CallNo.UnboundedBackEdge a) c h = (
-  none-of (InParts (calls l)) NestingAt f.nesting h.0 c.nesting,
-  none-of (InParts (calls l)) IndirectAt f.indirect h.1 (c.indirect h.0),
-  none-of (InParts (calls l)) TimedAt f.timed h.2 (c.timed h.0 h.1),
-  first-of (InParts (calls l)) UnboundedAt f.unbounded a h.3 (c.unbounded h.0 h.1 h.2),
+  none-of (InFunctions (calls l)) NestingAt f.nesting h.0 c.nesting,
+  none-of (InFunctions (calls l)) IndirectAt f.indirect h.1 (c.indirect h.0),
+  none-of (InFunctions (calls l)) TimedAt f.timed h.2 (c.timed h.0 h.1),
+  first-of (InFunctions (calls l)) UnboundedAt f.unbounded a h.3 (c.unbounded h.0 h.1 h.2),
 )
 refused l f CallNo.NoMemory c h = tt
 refused l f (CallNo.Overlap a) c h = h
@@ -187,13 +200,15 @@ refused l f (CallNo.Recursion a) c h = h
 refused l f (CallNo.Escape a) c h = h
 
 pub tree-refused : (l : Listing) (f : Causes) (t : CallNo) →
-    AreCauses (λ P. Before (InPart l P) (part_count l)) f → IsFirst f t → IsTreeRefused (calls l) t
+    AreCauses (λ P. Before (InFunction l P) (function_count l)) f → IsFirst f t →
+    IsTreeRefused (calls l) t
 tree-refused l f t c h = refused l f t (causes-all l f c) h
 
 pub tree-allowed : (l : Listing) (f : Causes) →
-    AreCauses (λ P. Before (InPart l P) (part_count l)) f → f ≡ no_causes →
-    ArePartsAllowed (calls l)
+    AreCauses (λ P. Before (InFunction l P) (function_count l)) f → f ≡ no_causes →
+    AreFunctionsAllowed (calls l)
 tree-allowed l f c e =
     let a =
-    causes-all l no_causes (subst (AreCauses (λ P. Before (InPart l P) (part_count l))) e c) in
+    causes-all l no_causes (subst (AreCauses (λ P. Before (InFunction l P) (function_count l))) e c)
+    in
     (a.nesting, a.indirect refl, a.timed refl refl, a.unbounded refl refl refl)

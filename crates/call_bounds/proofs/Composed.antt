@@ -8,22 +8,22 @@ use Rattle.region_tree.specs.Graph.{Edge, Reachable, edge_list}
 use Rattle.region_tree.specs.Tree.{IsSection, graph}
 use Rattle.bound_calc.proofs.BestLaws.{best-same}
 use Rattle.bound_calc.specs.Best.{Entries, IsBest}
-use Rattle.bound_calc.specs.Propagation.{WaysOn, over, index}
+use Rattle.bound_calc.specs.Propagation.{CostsOn, over, index}
 use Rattle.bound_calc.specs.Section.{IsAccepted, net, whole}
-use Rattle.bound_calc.specs.Ways.{Reaches}
+use Rattle.bound_calc.specs.PathCosts.{Reaches}
 use Rattle.call_bounds.specs.declared.routines.Routine.{Routine}
-use Rattle.call_bounds.specs.Calls.{Calls, Part, callee, inner_edges, part, range}
+use Rattle.call_bounds.specs.Calls.{Calls, Function, callee, inner_edges, function, range}
 use Rattle.call_bounds.specs.CallWalk.{Route}
 use Rattle.call_bounds.specs.Field.{field}
-use Rattle.call_bounds.specs.Patched.{part_tree}
+use Rattle.call_bounds.specs.Patched.{function_tree}
 use Rattle.call_bounds.specs.Runs.{Run}
 use Rattle.call_bounds.proofs.Agree.{Agree, walks}
 use Rattle.call_bounds.proofs.PatchLaws.{agrees}
 use Rattle.call_bounds.proofs.RunNet.{netted, run_of}
-use Rattle.call_bounds.proofs.Ways.{IsWay, ways-stand}
+use Rattle.call_bounds.proofs.WordCosts.{IsOwnEdge, word_costs-stand}
 
 -- a path of a function to word v
-pub record RunsTo (x : Route) (a : Part) (v p c q : ℕ) : Type 0 where
+pub record RunsTo (x : Route) (a : Function) (v p c q : ℕ) : Type 0 where
   pub counters : LoopSetup → ℕ
   pub run : Run x a p v q c counters
 
@@ -37,9 +37,9 @@ onward-aligned (Some t) w u e h c =
     let to : u + 4 ≡ e.to = ap (λ (y : Edge). y.to) same in
     omega arith
 
-pub agrees-back : (x : Calls) (a : Part) → IsSection (range x a) →
-    Agree (range x a).from (range x a).to (part x a).edges (graph (part_tree x a)).edges
-    (part x a).stop (graph (part_tree x a)).stop
+pub agrees-back : (x : Calls) (a : Function) → IsSection (range x a) →
+    Agree (range x a).from (range x a).to (function x a).edges (graph (function_tree x a)).edges
+    (function x a).stop (graph (function_tree x a)).stop
 agrees-back x a is = let g = agrees x a is in record {
   start = g.start;
   order = g.order;
@@ -49,21 +49,22 @@ agrees-back x a is = let g = agrees x a is in record {
 }
 
 -- the matrices of a function's calls hold the costs of their routines
-abbrev pub HoldsCalls : Route → Part → WaysOn → Type 0
-HoldsCalls x a ways =
-    (u : ℕ) → Reachable (part x.calls a) u →
-    IsWay x (callee x.calls u) (ways (index (part_tree x.calls a) u))
+abbrev pub HoldsCalls : Route → Function → CostsOn → Type 0
+HoldsCalls x a word_costs =
+    (u : ℕ) → Reachable (function x.calls a) u →
+    IsOwnEdge x (callee x.calls u) (word_costs (index (function_tree x.calls a) u))
 
-pub best-runs : (x : Route) (a : Part) (ways : WaysOn) (m : Entries) (v : ℕ) →
-    IsSection (range x.calls a) → IsAccepted (part x.calls a) → HoldsCalls x a ways →
-    IsBest m (Reaches (net (over (part_tree x.calls a) x.positions ways))
-    (whole (over (part_tree x.calls a) x.positions ways)) v) → IsBest m (RunsTo x a v)
-best-runs x a ways m v is ok are best =
+pub best-runs : (x : Route) (a : Function) (word_costs : CostsOn) (m : Entries) (v : ℕ) →
+    IsSection (range x.calls a) → IsAccepted (function x.calls a) → HoldsCalls x a word_costs →
+    IsBest m (Reaches (net (over (function_tree x.calls a) x.positions word_costs))
+    (whole (over (function_tree x.calls a) x.positions word_costs)) v) → IsBest m (RunsTo x a v)
+best-runs x a word_costs m v is ok are best =
     best-same
     (λ p c q r. record { counters = r.counters; run = run_of x r.walk })
     (λ p c q r. let n = netted x ok r.run in
     record { steps = n.steps; counters = r.counters; walk = n.walk })
-    (ways-stand x a (λ u. ways (index (part_tree x.calls a) u)) (whole (field x a)) m v are
+    (word_costs-stand x a (λ u. word_costs (index (function_tree x.calls a) u)) (whole (field
+    x a)) m v are
     (best-same
     (λ p c q r.
     record { steps = r.steps; counters = r.counters; walk = walks (agrees x.calls a is) r.walk })

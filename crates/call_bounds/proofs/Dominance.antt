@@ -4,7 +4,7 @@ use Rattle.fp_setup.specs.declared.loop_list.LoopSetup.{LoopSetup}
 use Rattle.region_tree.specs.Walk.{counter_after}
 use Rattle.bound_calc.specs.Best.{Entries, IsBest, ceiling}
 use Rattle.bound_calc.specs.Context.{Net, Scope, Walk}
-use Rattle.bound_calc.specs.Ways.{Reaches}
+use Rattle.bound_calc.specs.PathCosts.{Reaches}
 
 -- Two nets with the same own positions and loops, whose arcs differ only in their costs. The costs
 -- are equal up to the ceiling.

@@ -13,24 +13,24 @@ use Rattle.bound_calc.proofs.Embed.{is_or_not}
 use Rattle.bound_calc.proofs.Entries.{entry-in, entry-range}
 use Rattle.bound_calc.proofs.PassLaws.{none-entry}
 use Rattle.call_bounds.specs.CallRefusals.{IsCallable, IsListing}
-use Rattle.call_bounds.specs.Calls.{Calls, IsReached, Part}
+use Rattle.call_bounds.specs.Calls.{Calls, IsReached, Function}
 use Rattle.call_bounds.specs.Listing.{AreRanks, DoesCall, Listing, calls}
-use Rattle.call_bounds.specs.Listing.{part_at, part_count, rank_at}
+use Rattle.call_bounds.specs.Listing.{function_at, function_count, rank_at}
 use Rattle.call_bounds.specs.Runs.{Deep, Through}
 use Rattle.call_bounds.specs.Summaries.{AreKnown, AreSummaries, IsAdded, IsSummary}
 use Rattle.call_bounds.specs.Summaries.{IsSummaryAt, IsSummaryOf, KnowsCallees, route}
-use Rattle.call_bounds.proofs.PartLaws.{part-some}
+use Rattle.call_bounds.proofs.FunctionLaws.{function-some}
 
-pub callee-reached : (x : Calls) (a b : Part) → IsReached x a → DoesCall x a b → IsReached x b
+pub callee-reached : (x : Calls) (a b : Function) → IsReached x a → DoesCall x a b → IsReached x b
 callee-reached x a b r h = subst (λ b. IsReached x b) (sym h.to) (IsReached.next r h.known h.call)
 
 -- if all functions of lower ranks are computed, a function's callees are
 pub knows-callees : (l : Listing) (s : Positions) (ranks : List ℕ) (n : ℕ)
-    (known : ℕ → Type 0) (through deep : List Matrix) → AreRanks l ranks → n < part_count l →
+    (known : ℕ → Type 0) (through deep : List Matrix) → AreRanks l ranks → n < function_count l →
     ((k : ℕ) → rank_at ranks k < rank_at ranks n → known k) → AreKnown l s known through deep →
-    IsReached (calls l) (part_at l n) → KnowsCallees l s n through deep
+    IsReached (calls l) (function_at l n) → KnowsCallees l s n through deep
 knows-callees l s ranks n known through deep are lt lower all reached k lt' call =
-    all k lt' (callee-reached (calls l) (part_at l n) (part_at l k) reached call)
+    all k lt' (callee-reached (calls l) (function_at l n) (function_at l k) reached call)
     (lower k (are.rise n k lt lt' reached call))
 
 -- of lower ranks, or of this one and a number below n
@@ -88,7 +88,7 @@ before-more l s ranks rank n through deep through' deep' all added k lt reached 
         IsSummaryAt l s k through' deep'
     go (inl same) h =
         subst (λ k. IsSummaryAt l s k through' deep') (sym same)
-        (added.known (subst (λ k. IsReached (calls l) (part_at l k)) same reached))
+        (added.known (subst (λ k. IsReached (calls l) (function_at l k)) same reached))
     go (inr (inl below)) (inl h) = kept (λ e. let z : ⊥ = omega arith in z) (inl h)
     go (inr (inl below)) (inr h) = kept (λ e. let z : ⊥ = omega arith in z) (inr (h.0, below))
     go (inr (inr above)) (inl h) = kept (λ e. let z : ⊥ = omega arith in z) (inl h)
@@ -96,7 +96,7 @@ before-more l s ranks rank n through deep through' deep' all added k lt reached 
 
 -- all functions of a rank
 pub before-all : (l : Listing) (s : Positions) (ranks : List ℕ)
-    (rank n : ℕ) (through deep : List Matrix) → part_count l ≤ n →
+    (rank n : ℕ) (through deep : List Matrix) → function_count l ≤ n →
     AreKnown l s (Before ranks rank n) through deep →
     AreKnown l s (λ k. rank_at ranks k < rank + 1) through deep
 before-all l s ranks rank n through deep top all k lt reached h =
@@ -108,7 +108,7 @@ before-all l s ranks rank n through deep top all k lt reached h =
     go (inr same) = inr (same, omega arith)
 
 pub known-all : (l : Listing) (s : Positions) (ranks : List ℕ) (rank : ℕ)
-    (through deep : List Matrix) → AreRanks l ranks → part_count l < rank →
+    (through deep : List Matrix) → AreRanks l ranks → function_count l < rank →
     AreKnown l s (λ k. rank_at ranks k < rank) through deep →
     AreKnown l s (λ k. Unit {0}) through deep
 known-all l s ranks rank through deep are top all k lt reached h =
@@ -146,7 +146,7 @@ none-at (suc n) zero p q c e = none-entry p q c e
 none-at (suc n) (suc k) p q c e = none-at n k p q c e
 
 pub summaries-none : (l : Listing) (s : Positions) (n : ℕ) (through deep : List Matrix) →
-    IsListing (calls l) → IsCallable (calls l) → n ≡ part_count l →
+    IsListing (calls l) → IsCallable (calls l) → n ≡ function_count l →
     through ≡ replicate n (record { best = replicate 8 (replicate 8 None) }) →
     deep ≡ replicate n (record { best = replicate 8 (replicate 8 None) }) →
     AreSummaries l s through deep
@@ -165,7 +165,7 @@ summaries-none l s n through deep listing callable many is is' = record {
 
 -- the matrices of a function are stored
 pub added : (l : Listing) (s : Positions) (n : ℕ) (through deep through' deep' : List Matrix)
-    (one two : Matrix) → n < part_count l → AreSummaries l s through deep →
+    (one two : Matrix) → n < function_count l → AreSummaries l s through deep →
     through' ≡ slice_set through n one → deep' ≡ slice_set deep n two → IsSummaryOf l s n one two →
     0 < n → IsAdded l s n through deep through' deep'
 added l s n through deep through' deep' one two lt are put put' is pos = record {
@@ -203,7 +203,7 @@ added l s n through deep through' deep' one two lt are put put' is pos = record 
 
     own : (k p c q : ℕ) → matrix_at through' k p q ≡ Some c → (k ≡ n) ⊎ ((k ≡ n) → ⊥) → IsOwn s q
     own k p c q e (inl same) =
-        let t = part-some l n pos lt in
+        let t = function-some l n pos lt in
         let y = (is t.0 t.1).back.1 p c q (subst (λ m. entry m p q ≡ Some c) here
         (subst (λ k. matrix_at through' k p q ≡ Some c) same e)) in
         y.1.second.turn.own
@@ -211,7 +211,7 @@ added l s n through deep through' deep' one two lt are put put' is pos = record 
 
 -- a function that isn't reached
 pub added-none : (l : Listing) (s : Positions) (n : ℕ) (through deep : List Matrix) →
-    AreSummaries l s through deep → (IsReached (calls l) (part_at l n) → ⊥) →
+    AreSummaries l s through deep → (IsReached (calls l) (function_at l n) → ⊥) →
     IsAdded l s n through deep through deep
 added-none l s n through deep are none = record {
   all = are;

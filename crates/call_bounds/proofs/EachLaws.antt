@@ -4,8 +4,8 @@ use Rattle.std.proofs.Common.{List, [], ◌∷◌, ◌++◌, slice_index_or, Opt
 use Rattle.std.proofs.lemmas.List.{get_or_append_left, get_or_push, length_push}
 use Rattle.region_tree.specs.declared.section.Section.{Section}
 use Rattle.call_bounds.specs.Calls.{returns}
-use Rattle.call_bounds.specs.Listing.{Listing, calls, part_at}
-use Rattle.call_bounds.specs.Parts.{IsCallee}
+use Rattle.call_bounds.specs.Listing.{Listing, calls, function_at}
+use Rattle.call_bounds.specs.Functions.{IsCallee}
 use Rattle.call_bounds.specs.Summaries.{AreCallees, AreReturns}
 
 -- the element at an index of a list with one more element
@@ -30,13 +30,15 @@ callees-more l s n callees new o put are here = subst (AreCallees l s (n + 1)) (
   each = each-more (λ k o. IsCallee l (s.from + 4 * k) o) callees o None n are.count are.each here;
 })
 
-pub returns-more : (l : Listing) (part : ℕ) (s : Section) (n : ℕ) (ends new : List Bool)
-    (b : Bool) → new ≡ ends ++ b ∷ [] → AreReturns l part s n ends →
-    b ≡ returns (calls l) (part_at l part) (s.from + 4 * n) → AreReturns l part s (n + 1) new
-returns-more l part s n ends new b put are here =
-    subst (AreReturns l part s (n + 1)) (sym put) (record {
+pub returns-more : (l : Listing) (function : ℕ) (s : Section) (n : ℕ) (ends new : List Bool)
+    (b : Bool) → new ≡ ends ++ b ∷ [] → AreReturns l function s n ends →
+    b ≡ returns (calls l) (function_at l function) (s.from + 4 * n) → AreReturns l function
+    s (n + 1) new
+returns-more l function s n ends new b put are here =
+    subst (AreReturns l function s (n + 1)) (sym put) (record {
       count = let e = length_push ends b in omega (arith, are.count);
       each =
-          each-more (λ k b. b ≡ returns (calls l) (part_at l part) (s.from + 4 * k)) ends b false n
+          each-more (λ k b. b ≡ returns (calls l) (function_at l function) (s.from + 4 * k))
+          ends b false n
           are.count are.each here;
     })

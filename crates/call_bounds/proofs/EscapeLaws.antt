@@ -11,11 +11,11 @@ use Rattle.region_tree.specs.declared.section.Section.{Section}
 use Rattle.region_tree.proofs.LowestLaws.{by-edge, edge-by, lowest-same}
 use Rattle.call_bounds.specs.Build.{EscapeFrom, LeadsOut, LeavesAt}
 use Rattle.call_bounds.specs.CallRefusals.{EscapeAt, IsListing}
-use Rattle.call_bounds.specs.Calls.{Calls, IsReached, Part, part}
-use Rattle.call_bounds.specs.Listing.{ArePartTrees, IsTreeOf, Listing}
-use Rattle.call_bounds.specs.Listing.{calls, part_at, part_count, tree_at}
-use Rattle.call_bounds.specs.Patched.{part_tree}
-use Rattle.call_bounds.proofs.Numbers.{part-section, reached-number, routine-of}
+use Rattle.call_bounds.specs.Calls.{Calls, IsReached, Function, function}
+use Rattle.call_bounds.specs.Listing.{AreFunctionTrees, IsTreeOf, Listing}
+use Rattle.call_bounds.specs.Listing.{calls, function_at, function_count, tree_at}
+use Rattle.call_bounds.specs.Patched.{function_tree}
+use Rattle.call_bounds.proofs.Numbers.{function-section, reached-number, routine-of}
 use Rattle.call_bounds.proofs.Same.{leaves-same}
 
 -- by a word's two edges
@@ -46,33 +46,35 @@ by-leaves t k h =
     out l = h.out (record { low = l.0; high = l.1 })
 
 -- exactly the reached functions have a tree
-pub tree-is : (x : Calls) (p : Part) (o : Option Tree) (t : Tree) → IsTreeOf x p o → o ≡ Some t →
-    IsReached x p × (t ≡ part_tree x p)
-tree-is x p o t (IsTreeOf.reached r) e = (r, (let s : part_tree x p ≡ t = cc in sym s))
+pub tree-is : (x : Calls) (p : Function) (o : Option Tree) (t : Tree) → IsTreeOf x p o →
+    o ≡ Some t →
+    IsReached x p × (t ≡ function_tree x p)
+tree-is x p o t (IsTreeOf.reached r) e = (r, (let s : function_tree x p ≡ t = cc in sym s))
 tree-is x p o t (IsTreeOf.other out) e = cc
 
-pub tree-known : (x : Calls) (p : Part) (o : Option Tree) → IsTreeOf x p o → IsReached x p →
-    o ≡ Some (part_tree x p)
+pub tree-known : (x : Calls) (p : Function) (o : Option Tree) → IsTreeOf x p o → IsReached x p →
+    o ≡ Some (function_tree x p)
 tree-known x p o (IsTreeOf.reached r) h = refl
 tree-known x p o (IsTreeOf.other out) h = absurd (out h)
 
 pub escape-all : (l : Listing) (trees : List (Option Tree)) (c : ℕ) (r : Option ℕ) →
-    IsListing (calls l) → ArePartTrees l trees → c ≡ part_count l →
+    IsListing (calls l) → AreFunctionTrees l trees → c ≡ function_count l →
     LowestOf (Before (EscapeFrom trees) c) r → LowestOf (EscapeAt (calls l)) r
 escape-all l trees c r ok are all =
     lowest-same (Before (EscapeFrom trees) c) (EscapeAt (calls l)) r there back
   where
     there : (a : ℕ) → Before (EscapeFrom trees) c a → EscapeAt (calls l) a
     there a h =
-        let lt : h.0 < part_count l = omega (arith, h.1) in
+        let lt : h.0 < function_count l = omega (arith, h.1) in
         let z = routine-of l h.0 h.2.routine lt in
         let y =
-        tree-is (calls l) (part_at l h.0) (tree_at trees h.0) h.2.tree (are.each h.0 lt) h.2.at in
-        let leaves : LeavesAt (part (calls l) (part_at l h.0)) a =
-        (leaves-same (calls l) (part_at l h.0) (part-section l ok h.0 lt)).there a
+        tree-is (calls l) (function_at l h.0) (tree_at trees h.0) h.2.tree (are.each h.0
+        lt) h.2.at in
+        let leaves : LeavesAt (function (calls l) (function_at l h.0)) a =
+        (leaves-same (calls l) (function_at l h.0) (function-section l ok h.0 lt)).there a
         (subst (λ t. LeavesAt (graph t) a) y.1 h.2.leaves) in
-        let out : LeavesAt (part (calls l) (Some z.0)) a =
-        subst (λ p. LeavesAt (part (calls l) p) a) z.1 leaves in
+        let out : LeavesAt (function (calls l) (Some z.0)) a =
+        subst (λ p. LeavesAt (function (calls l) p) a) z.1 leaves in
         record {
           routine = z.0;
           from = subst (λ p. IsReached (calls l) p) z.1 y.0;
@@ -85,28 +87,30 @@ escape-all l trees c r ok are all =
     back : (a : ℕ) → EscapeAt (calls l) a → Before (EscapeFrom trees) c a
     back a h =
         let z = reached-number l (Some h.routine) h.from in
-        let leaves : LeavesAt (part (calls l) (Some h.routine)) a =
+        let leaves : LeavesAt (function (calls l) (Some h.routine)) a =
         record { by = h.by; reached = h.word; edge = h.edge; out = h.out } in
-        let here : LeavesAt (part (calls l) (part_at l z.0)) a =
-        subst (λ p. LeavesAt (part (calls l) p) a) (sym z.2) leaves in (
+        let here : LeavesAt (function (calls l) (function_at l z.0)) a =
+        subst (λ p. LeavesAt (function (calls l) p) a) (sym z.2) leaves in (
           z.0,
           omega (arith, z.1),
           record {
             routine = some z.0 z.2;
-            tree = part_tree (calls l) (part_at l z.0);
+            tree = function_tree (calls l) (function_at l z.0);
             at =
-                tree-known (calls l) (part_at l z.0) (tree_at trees z.0) (are.each z.0 z.1)
+                tree-known (calls l) (function_at l z.0) (tree_at trees z.0) (are.each z.0 z.1)
                 (subst (λ p. IsReached (calls l) p) (sym z.2) h.from);
             leaves =
-                (leaves-same (calls l) (part_at l z.0) (part-section l ok z.0 z.1)).back a here;
+                (leaves-same (calls l) (function_at l z.0) (function-section l ok z.0
+                z.1)).back a here;
           },
         )
       where
-        some : (k : ℕ) → part_at l k ≡ Some h.routine → 0 < k
+        some : (k : ℕ) → function_at l k ≡ Some h.routine → 0 < k
         some k e = elim (let z : (k ≡ 0) ⊎ (0 < k) = grind arith in z) [
           | inl y ↦
               absurd
-              (let x : None ≡ Some h.routine = subst (λ i. part_at l i ≡ Some h.routine) y e in cc)
+              (let x : None ≡ Some h.routine = subst (λ i. function_at l i ≡ Some h.routine) y e in
+              cc)
           | inr lt ↦ lt
         ]
 

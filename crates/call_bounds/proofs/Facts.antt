@@ -16,10 +16,10 @@ use Rattle.bound_calc.proofs.Outermost.{cons-cases, cons-first, cons-rest}
 use Rattle.call_bounds.specs.Routines.{IsRoutine, Rise}
 use Rattle.call_bounds.specs.declared.routines.Routine.{Routine}
 use Rattle.call_bounds.specs.CallRefusals.{IsCallable, IsListing}
-use Rattle.call_bounds.specs.Calls.{Calls, CallsLead, IsReached, Part, callee}
-use Rattle.call_bounds.specs.Calls.{link_target, part, range, routine_at, routine_to}
+use Rattle.call_bounds.specs.Calls.{Calls, CallsLead, IsReached, Function, callee}
+use Rattle.call_bounds.specs.Calls.{link_target, function, range, routine_at, routine_to}
 use Rattle.bound_calc.proofs.Accepted.{accepted-of}
-use Rattle.call_bounds.proofs.Parts.{AreParts}
+use Rattle.call_bounds.proofs.Functions.{AreFunctions}
 
 at-listed : (rs : List Routine) (a : ℕ) (r : Routine) → routine_at rs a ≡ Some r → Contains rs r
 unfolding routine_at
@@ -75,20 +75,20 @@ ordered x s is j h =
 never : (x : Calls) → CallsLead x None None → ⊥
 never x l = elim l [ ]
 
-pub parts : (x : Calls) → IsListing x → IsCallable x → AreParts x
-parts x is ok = record {
+pub functions : (x : Calls) → IsListing x → IsCallable x → AreFunctions x
+functions x is ok = record {
   some = some;
   same = same;
   once = once;
-  accepted = λ a r. accepted-of (part x a) (λ j h. ordered x (range x a) is j h) (allowed a r);
+  accepted = λ a r. accepted-of (function x a) (λ j h. ordered x (range x a) is j h) (allowed a r);
 }
   where
-    some : (a : Part) → IsReached x a → (part x a).from < (part x a).to
+    some : (a : Function) → IsReached x a → (function x a).from < (function x a).to
     some None r = is.section.order
     some (Some t) r =
         let o = is.routines.each t (reached-listed x t r) in let h = o.order in omega arith
 
-    allowed : (a : Part) → IsReached x a → IsAllowed (part x a)
+    allowed : (a : Function) → IsReached x a → IsAllowed (function x a)
     allowed a r = record {
       nesting = λ u h. ok.nesting u (record { within = a; reached = r; holds = h });
       indirect = λ u h. ok.indirect u (record { within = a; reached = r; holds = h });
@@ -96,13 +96,13 @@ parts x is ok = record {
       unbounded = λ u h. ok.unbounded u (record { within = a; reached = r; holds = h });
     }
 
-    once : (a : Part) → CallsLead x a a → ⊥
+    once : (a : Function) → CallsLead x a a → ⊥
     once None l = never x l
     once (Some r) l = ok.recursion r.head (record { routine = r; again = l; address = refl })
 
     -- a routine has no word of the section
-    outside : (r : Routine) (v : ℕ) → Contains x.routines r → Lies (part x None) v →
-        Lies (part x (Some r)) v → ⊥
+    outside : (r : Routine) (v : ℕ) → Contains x.routines r → Lies (function x None) v →
+        Lies (function x (Some r)) v → ⊥
     outside r v h l m =
         let o = is.routines.each r h in
         let a = o.head_aligned in
@@ -122,13 +122,13 @@ parts x is ok = record {
         })
 
     between : (r t : Routine) (v : ℕ) → IsRoutine r → IsRoutine t → r.last < t.head →
-        Lies (part x (Some r)) v → Lies (part x (Some t)) v → ⊥
+        Lies (function x (Some r)) v → Lies (function x (Some t)) v → ⊥
     between r t v a b lt l m =
         let c = a.last_aligned in
         let d = b.head_aligned in let l1 = l.high in let m0 = m.low in omega arith
 
-    same : (a b : Part) (v : ℕ) → IsReached x a → IsReached x b → Lies (part x a) v →
-        Lies (part x b) v → a ≡ b
+    same : (a b : Function) (v : ℕ) → IsReached x a → IsReached x b → Lies (function x a) v →
+        Lies (function x b) v → a ≡ b
     same None None v ra rb l m = refl
     same None (Some t) v ra rb l m = absurd (outside t v (reached-listed x t rb) l m)
     same (Some r) None v ra rb l m = absurd (outside r v (reached-listed x r ra) m l)

@@ -10,11 +10,12 @@ use Rattle.bound_calc.proofs.Accepted.{holds-or}
 use Rattle.bound_calc.proofs.Counters.{counted-other, counted-≤}
 use Rattle.bound_calc.proofs.Embed.{is_or_not}
 use Rattle.call_bounds.specs.declared.routines.Routine.{Routine}
-use Rattle.call_bounds.specs.Calls.{Calls, CallsLead, Counts, IsReached, Part, part, range}
-use Rattle.call_bounds.specs.CallWalk.{CallWalk, Route, counter_after_call, part_in}
+use Rattle.call_bounds.specs.Calls.{Calls, CallsLead, Counts, IsReached, Function, function, range}
+use Rattle.call_bounds.specs.CallWalk.{CallWalk, Route, counter_after_call, function_in}
 use Rattle.call_bounds.specs.Runs.{Run}
 use Rattle.call_bounds.proofs.Nested.{Below, called-other}
-use Rattle.call_bounds.proofs.Parts.{AreParts, apart, call-edge, head-lies, lead-from, plain-edge}
+use Rattle.call_bounds.proofs.Functions.{AreFunctions, apart, call-edge, head-lies, lead-from}
+use Rattle.call_bounds.proofs.Functions.{plain-edge}
 
 pub counted-out : (u v : ℕ) (j : LoopSetup) (n : ℕ) → v ≡ j.head → (Holds j u → ⊥) →
     counter_after u v j n ≡ 0
@@ -46,31 +47,33 @@ within (CallWalk.enter {k = l} {t = t} walk to turn) j h =
 within (CallWalk.come_back walk back lies turn bounds) j h = bounds j h
 
 -- a path of a function, appended to a path that has just entered the function
-pub record Played (x : Route) (p : ℕ) (s : List ℕ) (a : Part) (u q c : ℕ)
+pub record Played (x : Route) (p : ℕ) (s : List ℕ) (a : Function) (u q c : ℕ)
     (l k : LoopSetup → ℕ) : Type 0 where
   pub counters : LoopSetup → ℕ
   pub cost : ℕ
   pub walk : CallWalk x p u q s cost counters
   pub cost_is : cost ≡ c
-  pub held : (j : LoopSetup) → Contains (part x.calls a).loops j → Holds j u → counters j ≤ k j
-  pub others : (b : Part) (j : LoopSetup) → Below x.calls s b → Contains (part x.calls b).loops j →
+  pub held : (j : LoopSetup) → Contains (function x.calls a).loops j → Holds j u → counters j ≤ k j
+  pub others : (b : Function) (j : LoopSetup) → Below x.calls s b → Contains (function x.calls
+      b).loops j →
       counters j ≡ l j
-  pub word : Reachable (part x.calls a) u
+  pub word : Reachable (function x.calls a) u
 
 -- the counters of the whole path keep their bounds after a step inside a function
-steps-within : (x : Calls) (a : Part) (u v : ℕ) (l k : LoopSetup → ℕ) → AreParts x →
-    IsReached x a → Lies (part x a) v → ((j : LoopSetup) → Counts x j → l j ≤ j.limit) →
-    ((j : LoopSetup) → Contains (part x a).loops j → Holds j u → l j ≤ k j) → ((j : LoopSetup) →
-    Contains (part x a).loops j → Holds j u → v ≡ j.head → counter_after u v j (k j) ≤ j.limit) →
+steps-within : (x : Calls) (a : Function) (u v : ℕ) (l k : LoopSetup → ℕ) → AreFunctions x →
+    IsReached x a → Lies (function x a) v → ((j : LoopSetup) → Counts x j → l j ≤ j.limit) →
+    ((j : LoopSetup) → Contains (function x a).loops j → Holds j u → l j ≤ k j) → ((j : LoopSetup) →
+    Contains (function x a).loops j → Holds j u → v ≡ j.head → counter_after u v j (k j) ≤ j.limit)
+    →
     (j : LoopSetup) → Counts x j → counter_after u v j (l j) ≤ j.limit
 steps-within x a u v l k is reached lies small held bounds j h = go (is_or_not v j.head)
   where
-    here : v ≡ j.head → Contains (part x a).loops j
+    here : v ≡ j.head → Contains (function x a).loops j
     here e =
         let same : a ≡ h.within =
-        is.same a h.within v reached h.reached lies (subst (λ z. Lies (part x h.within) z)
+        is.same a h.within v reached h.reached lies (subst (λ z. Lies (function x h.within) z)
         (sym e) (head-lies x h.within j (is.accepted h.within h.reached) h.known)) in
-        subst (λ b. Contains (part x b).loops j) (sym same) h.known
+        subst (λ b. Contains (function x b).loops j) (sym same) h.known
 
     back : v ≡ j.head → (Holds j u) ⊎ (Holds j u → ⊥) → counter_after u v j (l j) ≤ j.limit
     back e (inl held_u) =
@@ -84,10 +87,10 @@ steps-within x a u v l k is reached lies small held bounds j h = go (is_or_not v
     go (inl e) = back e (holds-or j u)
 
 -- the loops that hold the word after a step
-steps-held : (x : Calls) (a : Part) (u : ℕ) (e : Edge) (l k : LoopSetup → ℕ) → AreParts x →
-    IsReached x a → Reachable (part x a) u → Contains ((part x a).edges u) e →
-    ((j : LoopSetup) → Contains (part x a).loops j → Holds j u → l j ≤ k j) →
-    (j : LoopSetup) → Contains (part x a).loops j → Holds j e.to →
+steps-held : (x : Calls) (a : Function) (u : ℕ) (e : Edge) (l k : LoopSetup → ℕ) → AreFunctions x →
+    IsReached x a → Reachable (function x a) u → Contains ((function x a).edges u) e →
+    ((j : LoopSetup) → Contains (function x a).loops j → Holds j u → l j ≤ k j) →
+    (j : LoopSetup) → Contains (function x a).loops j → Holds j e.to →
     counter_after u e.to j (l j) ≤ counter_after u e.to j (k j)
 steps-held x a u e l k is reached word edge held j h held_v =
     go (holds-or j u) ((is.accepted a reached).entered u e j word edge h held_v)
@@ -101,22 +104,23 @@ steps-held x a u e l k is reached word edge held j h held_v =
         let y = counted-out u e.to j (k j) head out in omega arith
 
 -- a word of one function is no head of a loop of a function below it
-not-head : (x : Calls) (a b : Part) (v : ℕ) (j : LoopSetup) → AreParts x → CallsLead x b a →
-    Lies (part x a) v → Contains (part x b).loops j → v ≢ j.head
+not-head : (x : Calls) (a b : Function) (v : ℕ) (j : LoopSetup) → AreFunctions x → CallsLead x b a →
+    Lies (function x a) v → Contains (function x b).loops j → v ≢ j.head
 not-head x a b v j is lead lies h e =
-    apart x b a v is lead (subst (λ z. Lies (part x b) z) (sym e)
+    apart x b a v is lead (subst (λ z. Lies (function x b) z) (sym e)
     (head-lies x b j (is.accepted b (lead-from x b a lead)) h)) lies
 
 -- the same for every path that has just entered the function
-abbrev pub Plays : Route → ℕ → Part → ℕ → ℕ → ℕ → ℕ → (LoopSetup → ℕ) → Type 0
+abbrev pub Plays : Route → ℕ → Function → ℕ → ℕ → ℕ → ℕ → (LoopSetup → ℕ) → Type 0
 Plays x p a m u q c k =
-    (s : List ℕ) (n : ℕ) (l : LoopSetup → ℕ) → part_in x.calls s ≡ a →
-    IsReached x.calls a → ((b : Part) → Below x.calls s b → CallsLead x.calls b a) →
+    (s : List ℕ) (n : ℕ) (l : LoopSetup → ℕ) → function_in x.calls s ≡ a →
+    IsReached x.calls a → ((b : Function) → Below x.calls s b → CallsLead x.calls b a) →
     CallWalk x p (range x.calls a).from m s n l →
-    ((j : LoopSetup) → Contains (part x.calls a).loops j → (range x.calls a).from ≡ j.head →
+    ((j : LoopSetup) → Contains (function x.calls a).loops j → (range x.calls a).from ≡ j.head →
     l j ≡ 0) → Played x p s a u q (n + c) l k
 
-pub played : (x : Route) (p : ℕ) → AreParts x.calls → {a : Part} {m u q c : ℕ} {k : LoopSetup → ℕ} →
+pub played : (x : Route) (p : ℕ) → AreFunctions x.calls → {a : Function} {m u q c : ℕ}
+    {k : LoopSetup → ℕ} →
     Run x a m u q c k → Plays x p a m u q c k
 played x p is {a} {m} (Run.start o) s n l here reached over walk zero = record {
   counters = l;
@@ -140,7 +144,7 @@ played x p is {a} {m} (Run.along {u = u} {q = q} {c = c} {d = d} {r = r}
       cost = y.cost + d;
       walk =
           CallWalk.along e y.walk edge
-          (subst (λ b. Lies (part x.calls b) e.to) (sym here) lies) turn
+          (subst (λ b. Lies (function x.calls b) e.to) (sym here) lies) turn
           (steps-within x.calls a u e.to y.counters k is reached lies (within y.walk) y.held
           (λ j h held_u at. bounds j h));
       cost_is = omega (arith, y.cost_is);
@@ -166,7 +170,7 @@ played x p is {a} {m}
         reached_t : IsReached x.calls (Some t)
         reached_t = IsReached.next reached y.word to
 
-        over_t : (b : Part) → Below x.calls (u ∷ s) b → CallsLead x.calls b (Some t)
+        over_t : (b : Function) → Below x.calls (u ∷ s) b → CallsLead x.calls b (Some t)
         over_t b (inl e) =
             subst (λ b. CallsLead x.calls b (Some t)) (sym (e ∙ here))
             (CallsLead.one reached y.word to)
@@ -176,8 +180,9 @@ played x p is {a} {m}
         some = is.some (Some t) reached_t
 
         -- a call changes no counter of this function or of those below it
-        kept : (b : Part) (j : LoopSetup) → Below x.calls (u ∷ s) b →
-            Contains (part x.calls b).loops j → counter_after_call t j (y.counters j) ≡ y.counters j
+        kept : (b : Function) (j : LoopSetup) → Below x.calls (u ∷ s) b →
+            Contains (function x.calls b).loops j → counter_after_call t j (y.counters j)
+            ≡ y.counters j
         kept b j below h =
             called-other t j (y.counters j) (not-head x.calls (Some t) b t.head j is
             (over_t b below) (record { low = omega arith; high = some }) h)
@@ -193,7 +198,7 @@ played x p is {a} {m}
           cost = z.cost + f;
           walk =
               CallWalk.come_back z.walk back
-              (subst (λ b. Lies (part x.calls b) (u + 4)) (sym here) lies) turn2
+              (subst (λ b. Lies (function x.calls b) (u + 4)) (sym here) lies) turn2
               (steps-within x.calls a u (u + 4) z.counters k is reached lies (within z.walk) same
               (λ j h held_u at. absurd (omega arith)));
           cost_is = omega (arith, y.cost_is, z.cost_is);
@@ -207,7 +212,7 @@ played x p is {a} {m}
           word = next edge y.word (call-edge x.calls a u t to) lies;
         }
           where
-            same : (j : LoopSetup) → Contains (part x.calls a).loops j → Holds j u →
+            same : (j : LoopSetup) → Contains (function x.calls a).loops j → Holds j u →
                 z.counters j ≤ k j
             same j h held_u =
                 let e1 = z.others a j (inl (sym here)) h in

@@ -12,23 +12,23 @@ use Rattle.region_tree.specs.declared.edges.Edges.{Edges as EdgesOf}
 use Rattle.region_tree.proofs.EdgeLaws.{edge-is, is-edge}
 use Rattle.bound_calc.specs.Best.{Costs, Either, In, Then, ceiling}
 use Rattle.bound_calc.specs.Tops.{IsTop}
-use Rattle.bound_calc.specs.Propagation.{WaysOn, edges_at, leaves, matrix_at, move_costs, index}
+use Rattle.bound_calc.specs.Propagation.{CostsOn, edges_at, leaves, matrix_at, move_costs, index}
 use Rattle.bound_calc.specs.declared.matrix.Matrix.{Matrix}
 use Rattle.bound_calc.proofs.MostLaws.{leaves-not, not-leaves}
 use Rattle.call_bounds.specs.declared.routines.Routine.{Routine}
-use Rattle.call_bounds.specs.Calls.{Calls, Part, callee, inner_edges}
-use Rattle.call_bounds.specs.Calls.{part, plain_edges, plain_unless, range}
+use Rattle.call_bounds.specs.Calls.{Calls, Function, callee, inner_edges}
+use Rattle.call_bounds.specs.Calls.{function, plain_edges, plain_unless, range}
 use Rattle.call_bounds.specs.CallWalk.{Route}
 use Rattle.call_bounds.specs.Field.{moves}
-use Rattle.call_bounds.specs.Patched.{part_tree}
+use Rattle.call_bounds.specs.Patched.{function_tree}
 use Rattle.call_bounds.specs.Runs.{Deep, Leaving, Nested, Run, Through}
 use Rattle.call_bounds.specs.Summaries.{Any, IsMost, LeavesAt, When}
 use Rattle.call_bounds.proofs.AnyLaws.{Alike}
-use Rattle.call_bounds.proofs.PartLaws.{Gone, RunAt, count, run-at}
-use Rattle.call_bounds.proofs.Parts.{call-edge, plain-edge}
+use Rattle.call_bounds.proofs.FunctionLaws.{Gone, RunAt, count, run-at}
+use Rattle.call_bounds.proofs.Functions.{call-edge, plain-edge}
 use Rattle.call_bounds.proofs.PatchLaws.{agrees}
 use Rattle.call_bounds.proofs.RunNet.{call-is, plain-move}
-use Rattle.call_bounds.proofs.Ways.{IsWayOf, covered, found}
+use Rattle.call_bounds.proofs.WordCosts.{IsEdgeOf, covered, found}
 
 -- a path of the section and an edge of its graph out of it
 record Leaves (x : Route) (p c q : ℕ) : Type 0 where
@@ -39,8 +39,8 @@ record Leaves (x : Route) (p c q : ℕ) : Type 0 where
   counters : LoopSetup → ℕ
   by : Edge
   run : Run x None p word at one counters
-  edge : Contains ((part x.calls None).edges word) by
-  out : Lies (part x.calls None) by.to → ⊥
+  edge : Contains ((function x.calls None).edges word) by
+  out : Lies (function x.calls None) by.to → ⊥
   move : moves x (callee x.calls word) by.lag at two q
   cost : c ≡ one + two
 
@@ -80,7 +80,7 @@ from_leaves : (x : Route) {p c q : ℕ} → Leaves x p c q → Leaving x p c q
 from_leaves x {p} {c} {q} y = go (callee x.calls y.word) refl y.edge y.move
   where
     go : (o : Option Routine) → callee x.calls y.word ≡ o →
-        Contains ((part x.calls None).edges y.word) y.by → moves x o y.by.lag y.at y.two q →
+        Contains ((function x.calls None).edges y.word) y.by → moves x o y.by.lag y.at y.two q →
         Leaving x p c q
     go None to edge move =
         subst (λ c. Leaving x p c q) (sym y.cost) (Leaving.leaves y.by y.run plain_one y.out move)
@@ -93,12 +93,13 @@ from_leaves x {p} {c} {q} y = go (callee x.calls y.word) refl y.edge y.move
             (edge_list (edges_of (x.calls.word y.word) y.word))) y.by) to edge)
     go (Some t) to edge move =
         subst (λ c. Leaving x p c q) (omega (arith, y.cost, move.cost))
-        (Leaving.comes_out y.run to (λ l. y.out (subst (λ v. Lies (part x.calls None) v)
+        (Leaving.comes_out y.run to (λ l. y.out (subst (λ v. Lies (function x.calls None) v)
         (sym (call-is x.calls None y.word t y.by to edge)) l)) move.first move.second)
 
 -- the edges of the word at an index
 edges-same : (x : Calls) (k : ℕ) → IsSection (range x None) → k < count (range x None) →
-    edge_list (edges_at (part_tree x None) k) ≡ (part x None).edges ((range x None).from + 4 * k)
+    edge_list (edges_at (function_tree x None) k) ≡ (function x None).edges ((range x None).from
+    + 4 * k)
 edges-same x k is lt =
     (agrees x None is).same ((range x None).from + 4 * k)
     (let a = is.from_aligned in omega arith) (omega arith)
@@ -120,18 +121,19 @@ sum-among : (a b c one two n : ℕ) → min one n ≡ min a n → min two n ≡ 
 sum-among a b c one two n h1 h2 is = omega arith
 
 -- costs at a word and of an edge out of the section are costs of paths that leave it
-pub leaving-alike : (x : Route) (at : List Matrix) (ways : WaysOn) → Gone x None at →
-    ((u : ℕ) → Reachable (part x.calls None) u →
-    IsWayOf x (Through x) (callee x.calls u) (ways (index (part_tree x.calls None) u))) →
+pub leaving-alike : (x : Route) (at : List Matrix) (word_costs : CostsOn) → Gone x None at →
+    ((u : ℕ) → Reachable (function x.calls None) u →
+    IsEdgeOf x (Through x) (callee x.calls u) (word_costs (index (function_tree x.calls None) u))) →
     Alike (Leaving x)
-    (Any (LeavesAt (part_tree x.calls None) x.positions ways at) (count (range x.calls None)))
-leaving-alike x at ways g are = record {
+    (Any (LeavesAt (function_tree x.calls None) x.positions word_costs at) (count (range
+    x.calls None)))
+leaving-alike x at word_costs g are = record {
   covers = λ p c q h. covers p c q (to_leaves x h);
   among = λ p e q h. among p e q h.0 h.1 h.2;
 }
   where
     t : Tree
-    t = part_tree x.calls None
+    t = function_tree x.calls None
 
     start : ℕ
     start = (range x.calls None).from
@@ -140,7 +142,7 @@ leaving-alike x at ways g are = record {
     is = g.section
 
     covers : (p c q : ℕ) → Leaves x p c q →
-        (e : ℕ) × Any (LeavesAt t x.positions ways at) (count (range x.calls None)) p e q
+        (e : ℕ) × Any (LeavesAt t x.positions word_costs at) (count (range x.calls None)) p e q
         × (min c ceiling ≤ e)
     covers p c q y = (
       r.cost + d.0,
@@ -161,43 +163,46 @@ leaving-alike x at ways g are = record {
         e : EdgesOf
         e = edges_at t k
 
-        d : (e : ℕ) × move_costs x.positions (ways k) y.by.lag y.at e q × (min y.two ceiling ≤ e)
+        d : (e : ℕ) × move_costs x.positions (word_costs k) y.by.lag y.at e q ×
+            (min y.two ceiling ≤ e)
         d =
-            subst (λ n. (e : ℕ) × move_costs x.positions (ways n) y.by.lag y.at e q
+            subst (λ n. (e : ℕ) × move_costs x.positions (word_costs n) y.by.lag y.at e q
             × (min y.two ceiling ≤ e)) r.index.is (covered x (callee x.calls y.word)
-            (ways (index t y.word)) y.by.lag y.at y.two q (are y.word r.word) y.move)
+            (word_costs (index t y.word)) y.by.lag y.at y.two q (are y.word r.word) y.move)
 
         known : Contains (edge_list e) y.by
         known =
             subst (λ l. Contains l y.by) (sym (edges-same x.calls k is r.index.below))
-            (subst (λ u. Contains ((part x.calls None).edges u) y.by) (sym r.index.address) y.edge)
+            (subst (λ u. Contains ((function x.calls None).edges u) y.by)
+            (sym r.index.address) y.edge)
 
         far : Lies (graph t) y.by.to → ⊥
         far l = y.out (record { low = l.low; high = l.high })
 
         there : (target : Option ℕ) (lag : ℕ) → Contains (edge_to target lag) y.by →
             When (leaves t target)
-            (Then (In (matrix_at at k)) (move_costs x.positions (ways k) lag)) p (r.cost + d.0) q
+            (Then (In (matrix_at at k)) (move_costs x.positions (word_costs k) lag)) p
+            (r.cost + d.0) q
         there target lag h =
             let i = edge-is target lag y.by h in
             when-in (leaves t target)
-            (Then (In (matrix_at at k)) (move_costs x.positions (ways k) lag))
+            (Then (In (matrix_at at k)) (move_costs x.positions (word_costs k) lag))
             (ap (leaves t) i.0 ∙ not-leaves t y.by.to far) (record {
               at = y.at;
               one = r.cost;
               two = d.0;
               first = r.is;
-              second = subst (λ lag. move_costs x.positions (ways k) lag y.at d.0 q) i.1 d.1;
+              second = subst (λ lag. move_costs x.positions (word_costs k) lag y.at d.0 q) i.1 d.1;
               cost = refl;
             })
 
         out : Contains (edge_to e.next e.next_lag) y.by ⊎ Contains (edge_to e.jump 3) y.by →
-            LeavesAt t x.positions ways at k p (r.cost + d.0) q
+            LeavesAt t x.positions word_costs at k p (r.cost + d.0) q
         out (inl h) = inl (there e.next e.next_lag h)
         out (inr h) = inr (there e.jump 3 h)
 
     among : (p e q k : ℕ) → k < count (range x.calls None) →
-        LeavesAt t x.positions ways at k p e q →
+        LeavesAt t x.positions word_costs at k p e q →
         (c : ℕ) × Leaving x p c q × (min e ceiling ≡ min c ceiling)
     among p e q k lt h =
         elim h [ inl y ↦ from b.next b.next_lag known_next y | inr y ↦ from b.jump 3 known_jump y ]
@@ -213,16 +218,17 @@ leaving-alike x at ways g are = record {
 
         by_edge : (v lag : ℕ) → Contains (edge_list b) (record { to = v; lag = lag }) →
             (Lies (graph t) v → ⊥) →
-            Then (In (matrix_at at k)) (move_costs x.positions (ways k) lag) p e q →
+            Then (In (matrix_at at k)) (move_costs x.positions (word_costs k) lag) p e q →
             (c : ℕ) × Leaving x p c q × (min e ceiling ≡ min c ceiling)
         by_edge v lag edge far y =
             let one = (g.best k lt).1 p y.one y.at y.first in
             let r = run-at x None at g one.1 in
             let same : r.index.at ≡ k = (let a = r.index.address in omega arith) in
-            let w = subst (λ i. IsWayOf x (Through x) (callee x.calls (start + 4 * k)) (ways i))
+            let w = subst (λ i. IsEdgeOf x (Through x) (callee x.calls (start + 4 * k))
+            (word_costs i))
             (r.index.is ∙ same) (are (start + 4 * k) r.word) in
             let two =
-            found x (callee x.calls (start + 4 * k)) (ways k) lag y.at y.two q w y.second in (
+            found x (callee x.calls (start + 4 * k)) (word_costs k) lag y.at y.two q w y.second in (
               one.0 + two.0,
               from_leaves x (record {
                 word = start + 4 * k;
@@ -245,17 +251,17 @@ leaving-alike x at ways g are = record {
         from : (target : Option ℕ) (lag : ℕ) →
             ((a : Edge) → Contains (edge_to target lag) a → Contains (edge_list b) a) →
             When (leaves t target)
-            (Then (In (matrix_at at k)) (move_costs x.positions (ways k) lag)) p e q →
+            (Then (In (matrix_at at k)) (move_costs x.positions (word_costs k) lag)) p e q →
             (c : ℕ) × Leaving x p c q × (min e ceiling ≡ min c ceiling)
         from None lag known h = absurd h
         from (Some v) lag known h =
             let y = when-out (leaves t (Some v))
-            (Then (In (matrix_at at k)) (move_costs x.positions (ways k) lag)) h in
+            (Then (In (matrix_at at k)) (move_costs x.positions (word_costs k) lag)) h in
             by_edge v lag (known (record { to = v; lag = lag }) (is-edge (Some v) lag v refl))
             (leaves-not t v y.0) y.1
 
 -- paths begin at own positions
-run-own : (x : Route) {a : Part} {p u q c : ℕ} {k : LoopSetup → ℕ} → Run x a p u q c k →
+run-own : (x : Route) {a : Function} {p u q c : ℕ} {k : LoopSetup → ℕ} → Run x a p u q c k →
     IsOwn x.positions p
 run-own x (Run.start o) = o
 run-own x (Run.along e run edge lies turn bounds) = run-own x run

@@ -17,9 +17,9 @@ use Rattle.region_tree.specs.declared.edges.Stop.{Stop}
 use Rattle.region_tree.specs.declared.edges.Stop.TheVariants.{No}
 use Rattle.region_tree.proofs.EdgeLaws.{edge-aligned}
 use Rattle.call_bounds.specs.declared.routines.Routine.{Routine}
-use Rattle.call_bounds.specs.Calls.{Calls, Part, callee, is_back, link_target, inner_edges}
-use Rattle.call_bounds.specs.Calls.{part, range, returns, routine_to, stop_unless}
-use Rattle.call_bounds.specs.Patched.{part_tree, patch, patched_word}
+use Rattle.call_bounds.specs.Calls.{Calls, Function, callee, is_back, link_target, inner_edges}
+use Rattle.call_bounds.specs.Calls.{function, range, returns, routine_to, stop_unless}
+use Rattle.call_bounds.specs.Patched.{function_tree, patch, patched_word}
 use Rattle.call_bounds.proofs.Agree.{Agree}
 
 section-word : (memory : ℕ → ℕ) (s : Section) (loops : List LoopSetup) (u : ℕ) → s.from % 4 ≡ 0 →
@@ -60,7 +60,7 @@ back-edges u = refl
 back-is : (w : ℕ) → is_back w ≡ true → w ≡ 0x00008067
 back-is w h = grind (arith, nat_tests)
 
-returns-is : (x : Calls) (a : Part) (u : ℕ) → returns x a u ≡ true → x.word u ≡ 0x00008067
+returns-is : (x : Calls) (a : Function) (u : ℕ) → returns x a u ≡ true → x.word u ≡ 0x00008067
 returns-is x None u h = cc
 returns-is x (Some t) u h = back-is (x.word u) h
 
@@ -79,7 +79,7 @@ stays-no : (b : Bool) (s : Stop) → s ≡ No → stop_unless b s ≡ No
 stays-no true s e = refl
 stays-no false s e = e
 
-edges-same : (x : Calls) (a : Part) (u : ℕ) → u < 65536 → (o : Option Routine) (b : Bool) →
+edges-same : (x : Calls) (a : Function) (u : ℕ) → u < 65536 → (o : Option Routine) (b : Bool) →
     callee x u ≡ o → returns x a u ≡ b → edge_list (edges_of (patch o b (x.word u)) u)
     ≡ inner_edges o u (edge_list (edges_of (x.word u) u))
 edges-same x a u low (Some t) b e f =
@@ -89,7 +89,7 @@ edges-same x a u low None true e f =
     end-edges u ∙ sym (ap (λ w. edge_list (edges_of w u)) (returns-is x a u f) ∙ back-edges u)
 edges-same x a u low None false e f = refl
 
-stops-same : (x : Calls) (a : Part) (u : ℕ) (o : Option Routine) (b : Bool) →
+stops-same : (x : Calls) (a : Function) (u : ℕ) (o : Option Routine) (b : Bool) →
     callee x u ≡ o → returns x a u ≡ b →
     (edges_of (patch o b (x.word u)) u).stop ≡ stop_unless b (edges_of (x.word u) u).stop
 stops-same x a u (Some t) b e f =
@@ -97,8 +97,10 @@ stops-same x a u (Some t) b e f =
 stops-same x a u None true e f = end-stop u
 stops-same x a u None false e f = refl
 
-pub agrees : (x : Calls) (a : Part) → IsSection (range x a) → Agree (range x a).from (range x a).to
-    (graph (part_tree x a)).edges (part x a).edges (graph (part_tree x a)).stop (part x a).stop
+pub agrees : (x : Calls) (a : Function) → IsSection (range x a) → Agree (range x a).from
+    (range x a).to
+    (graph (function_tree x a)).edges (function x a).edges (graph (function_tree x a)).stop
+    (function x a).stop
 agrees x a is = record {
   start = is.from_aligned;
   order = is.order;
@@ -108,11 +110,11 @@ agrees x a is = record {
   stops =
       λ u align low high. ap (λ w. (edges_of w u).stop) (here u align low high)
       ∙ stops-same x a u (callee x u) (returns x a u) refl refl;
-  aligned = λ u e align h. edge-aligned (word_at (part_tree x a) u) u e align h;
+  aligned = λ u e align h. edge-aligned (word_at (function_tree x a) u) u e align h;
 }
   where
     here : (u : ℕ) → u % 4 ≡ 0 → (range x a).from ≤ u → u < (range x a).to →
-        word_at (part_tree x a) u ≡ patched_word x a u
+        word_at (function_tree x a) u ≡ patched_word x a u
     here u align low high =
         section-word (patched_word x a)
         (range x a) x.loops u is.from_aligned is.to_aligned align low high

@@ -187,16 +187,16 @@ sweep-same n table c old mid new changed here s p =
         (p.here k call.1 (subst (λ j. HasCall n table j k) same call))
 
 -- one more function
-pub sweep-part : (n : ℕ) (table : List Bool) (c : ℕ) (old mid new : List Bool)
+pub sweep-function : (n : ℕ) (table : List Bool) (c : ℕ) (old mid new : List Bool)
     (changed more : Bool) → Swept n table c old mid changed → SpreadMet n table c mid new more →
     Swept n table (c + 1) old new (if more then true else changed)
-sweep-part n table c old mid new changed more s (inl z) =
+sweep-function n table c old mid new changed more s (inl z) =
     subst (λ m. Swept n table (c + 1) old m (if more then true else changed)) (sym z.2)
     (subst (λ b. Swept n table (c + 1) old mid (if b then true else changed)) (sym z.1)
     (sweep-none n table c old mid changed z.0 s))
-sweep-part n table c old mid new changed true s (inr z) =
+sweep-function n table c old mid new changed true s (inr z) =
     sweep-more n table c old mid new changed z.0 s z.1
-sweep-part n table c old mid new changed false s (inr z) =
+sweep-function n table c old mid new changed false s (inr z) =
     sweep-same n table c old mid new changed z.0 s z.1
 
 -- the rounds so far

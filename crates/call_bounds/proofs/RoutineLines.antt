@@ -58,11 +58,11 @@ past-digits : (n : ℕ) (bytes : List ℕ) → n ≤ length bytes →
 past-digits zero bytes le h = refl
 past-digits (suc n) [] le h = absurd (omega arith)
 past-digits (suc n) (byte ∷ bytes) le h =
-    let parts : (is_digit byte ≡ true) × (list_all is_digit (take n bytes) ≡ true) =
+    let functions : (is_digit byte ≡ true) × (list_all is_digit (take n bytes) ≡ true) =
     both (is_digit byte) (list_all is_digit (take n bytes)) h in
-    let other : (byte == 10) ≡ false = (let d = parts.0 in grind (arith, nat_tests)) in
+    let other : (byte == 10) ≡ false = (let d = functions.0 in grind (arith, nat_tests)) in
     ap (λ b. if b then is_none bytes else ends_line bytes) other
-    ∙ past-digits n bytes (omega arith) parts.1
+    ∙ past-digits n bytes (omega arith) functions.1
 
 record Form (line : List ℕ) : Type 0 where
   len : length line ≡ 18
@@ -146,9 +146,9 @@ broken line rest len some wrong = go (lines_of (line ++ rest)) refl
         let long : length l ≡ 18 = (form-of l h).len in
         let whole : length (l ++ concat ls) ≡ length (line ++ rest) =
         ap (λ (z : List ℕ). length z) e in
-        let parts : length (l ++ concat ls) ≡ length l + length (concat ls) =
+        let functions : length (l ++ concat ls) ≡ length l + length (concat ls) =
         length-append l (concat ls) in
-        let full : length line ≡ 18 = omega (arith, long, whole, parts) in
+        let full : length line ≡ 18 = omega (arith, long, whole, functions) in
         sym (take-append_seam l (concat ls)) ∙ (ap (λ n. take n (l ++ concat ls)) (long ∙ sym full)
         ∙ (ap (λ z. take (length line) z) e ∙ take-append_seam line rest))
 

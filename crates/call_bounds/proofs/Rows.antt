@@ -10,8 +10,8 @@ use Rattle.region_tree.specs.Edges.{edges_from, edges_of}
 use Rattle.region_tree.specs.Graph.{Lies}
 use Rattle.region_tree.specs.Walk.{IsNextTurn, IsOwn, Positions}
 use Rattle.call_bounds.specs.declared.routines.Routine.{Routine}
-use Rattle.call_bounds.specs.Calls.{Calls, Part, callee, is_back, link_target}
-use Rattle.call_bounds.specs.Calls.{part, plain_edges, routine_at}
+use Rattle.call_bounds.specs.Calls.{Calls, Function, callee, is_back, link_target}
+use Rattle.call_bounds.specs.Calls.{function, plain_edges, routine_at}
 use Rattle.call_bounds.specs.CallWalk.{CallWalk, CostsOf, Route, WithinBounds}
 
 memory : ℕ → ℕ
@@ -89,32 +89,32 @@ unfolding calls routine memory ins rows lui_rows auipc_rows jal_rows jalr_rows b
 in_routine = (0, omega arith, refl)
 
 -- no loop counts
-no_loop : (a : Part) (j : LoopSetup) → Contains (part calls a).loops j → ⊥
+no_loop : (a : Function) (j : LoopSetup) → Contains (function calls a).loops j → ⊥
 unfolding calls
 no_loop a j h = absurd (omega (arith, h.1))
 
 free : (k : LoopSetup → ℕ) → WithinBounds calls k
 free k j h = absurd (no_loop h.within j h.known)
 
-in_it : Lies (part calls (Some routine)) 0x104
+in_it : Lies (function calls (Some routine)) 0x104
 unfolding routine
 in_it = record { low = omega arith; high = omega arith }
 
-from_first : Lies (part calls (callee calls 0)) 0x104
-from_first = subst (λ a. Lies (part calls a) 0x104) (sym first_call) in_it
+from_first : Lies (function calls (callee calls 0)) 0x104
+from_first = subst (λ a. Lies (function calls a) 0x104) (sym first_call) in_it
 
-from_last : Lies (part calls (callee calls 8)) 0x104
-from_last = subst (λ a. Lies (part calls a) 0x104) (sym last_call) in_it
+from_last : Lies (function calls (callee calls 8)) 0x104
+from_last = subst (λ a. Lies (function calls a) 0x104) (sym last_call) in_it
 
-lies_4 : Lies (part calls None) 4
+lies_4 : Lies (function calls None) 4
 unfolding calls
 lies_4 = record { low = omega arith; high = omega arith }
 
-lies_8 : Lies (part calls None) 8
+lies_8 : Lies (function calls None) 8
 unfolding calls
 lies_8 = record { low = omega arith; high = omega arith }
 
-out_12 : Lies (part calls None) 12 → ⊥
+out_12 : Lies (function calls None) 12 → ⊥
 unfolding calls
 out_12 l = omega (arith, l.high)
 

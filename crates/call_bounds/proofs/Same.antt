@@ -7,8 +7,8 @@ use Rattle.region_tree.specs.Nesting.{NestingAt}
 use Rattle.region_tree.specs.Tree.{IsSection, graph}
 use Rattle.region_tree.specs.declared.edges.Stop.{Stop}
 use Rattle.call_bounds.specs.Build.{LeavesAt}
-use Rattle.call_bounds.specs.Calls.{Calls, Part, part, range}
-use Rattle.call_bounds.specs.Patched.{part_tree}
+use Rattle.call_bounds.specs.Calls.{Calls, Function, function, range}
+use Rattle.call_bounds.specs.Patched.{function_tree}
 use Rattle.call_bounds.proofs.Agree.{Agree, back, graph_of}
 use Rattle.call_bounds.proofs.Composed.{agrees-back}
 use Rattle.call_bounds.proofs.PatchLaws.{agrees}
@@ -68,24 +68,24 @@ leaves {loops = loops} a u h = let z = back loops a h.reached in record {
 }
 
 -- a row of a graph that holds in a function exactly if it holds in its tree
-pub record IsSame (P : Graph → ℕ → Type 0) (x : Calls) (a : Part) : Type 0 where
-  pub there : (u : ℕ) → P (graph (part_tree x a)) u → P (part x a) u
-  pub back : (u : ℕ) → P (part x a) u → P (graph (part_tree x a)) u
+pub record IsSame (P : Graph → ℕ → Type 0) (x : Calls) (a : Function) : Type 0 where
+  pub there : (u : ℕ) → P (graph (function_tree x a)) u → P (function x a) u
+  pub back : (u : ℕ) → P (function x a) u → P (graph (function_tree x a)) u
 
-pub nesting-same : (x : Calls) (a : Part) → IsSection (range x a) → IsSame NestingAt x a
+pub nesting-same : (x : Calls) (a : Function) → IsSection (range x a) → IsSame NestingAt x a
 nesting-same x a is =
     record { there = nesting (agrees-back x a is); back = nesting (agrees x a is) }
 
-pub indirect-same : (x : Calls) (a : Part) → IsSection (range x a) → IsSame IndirectAt x a
+pub indirect-same : (x : Calls) (a : Function) → IsSection (range x a) → IsSame IndirectAt x a
 indirect-same x a is =
     record { there = indirect (agrees-back x a is); back = indirect (agrees x a is) }
 
-pub timed-same : (x : Calls) (a : Part) → IsSection (range x a) → IsSame TimedAt x a
+pub timed-same : (x : Calls) (a : Function) → IsSection (range x a) → IsSame TimedAt x a
 timed-same x a is = record { there = timed (agrees-back x a is); back = timed (agrees x a is) }
 
-pub unbounded-same : (x : Calls) (a : Part) → IsSection (range x a) → IsSame UnboundedAt x a
+pub unbounded-same : (x : Calls) (a : Function) → IsSection (range x a) → IsSame UnboundedAt x a
 unbounded-same x a is =
     record { there = unbounded (agrees-back x a is); back = unbounded (agrees x a is) }
 
-pub leaves-same : (x : Calls) (a : Part) → IsSection (range x a) → IsSame LeavesAt x a
+pub leaves-same : (x : Calls) (a : Function) → IsSection (range x a) → IsSame LeavesAt x a
 leaves-same x a is = record { there = leaves (agrees-back x a is); back = leaves (agrees x a is) }

@@ -17,11 +17,11 @@ use Rattle.region_tree.proofs.GraphLaws.{reachable-aligned, reachable-lies}
 use Rattle.call_bounds.specs.declared.routines.Routine.{Routine}
 use Rattle.call_bounds.specs.Build.{CallsAt, IsRow, IsRowTo, IsTableTo, Marked}
 use Rattle.call_bounds.specs.CallRefusals.{IsListing}
-use Rattle.call_bounds.specs.Calls.{callee, part, range}
-use Rattle.call_bounds.specs.Listing.{DoesCall, Listing, calls, part_at, part_count}
-use Rattle.call_bounds.specs.Patched.{part_tree, patched_word}
+use Rattle.call_bounds.specs.Calls.{callee, function, range}
+use Rattle.call_bounds.specs.Listing.{DoesCall, Listing, calls, function_at, function_count}
+use Rattle.call_bounds.specs.Patched.{function_tree, patched_word}
 use Rattle.call_bounds.proofs.Agree.{back, reach}
-use Rattle.call_bounds.proofs.Numbers.{number-once, part-section, routine-of}
+use Rattle.call_bounds.proofs.Numbers.{number-once, function-section, routine-of}
 use Rattle.call_bounds.proofs.PatchLaws.{agrees}
 
 is_or_not : (a b : ℕ) → (a ≡ b) ⊎ (a ≢ b)
@@ -59,7 +59,8 @@ unmarked row = record { count = refl; grows = λ k h. h; here = λ k h. cc; from
 pub calls-at : (l : Listing) (t : Tree) (index : ℕ) (r : Option ℕ) →
     IsListing (calls l) → Reachable (graph t) (address t index) →
     MatchOption r (callee (calls l) (address t index) ≡ None)
-    (λ k. (0 < k) × (k < part_count l) × (callee (calls l) (address t index) ≡ part_at l k)) →
+    (λ k. (0 < k) × (k < function_count l) × (callee (calls l) (address t index) ≡ function_at l k))
+    →
     (k : ℕ) → (r ≡ Some k) ↔ CallsAt l t index k
 calls-at l t index None is known says k = (
   λ e. cc,
@@ -75,7 +76,7 @@ calls-at l t index (Some j) is known says k = (
     here = record { known = known; routine = says.0; listed = says.1; call = says.2 }
 
     once : (h : CallsAt l t index k) →
-        (r : Routine) × (part_at l k ≡ Some r) × Contains l.routines r → Some j ≡ Some k
+        (r : Routine) × (function_at l k ≡ Some r) × Contains l.routines r → Some j ≡ Some k
     once h z = ap Some (number-once l is j k z.0 says.1 h.listed (sym says.2 ∙ (h.call ∙ z.1)) z.1)
 
 pub calls-none : (l : Listing) (t : Tree) (index : ℕ) →
@@ -83,7 +84,7 @@ pub calls-none : (l : Listing) (t : Tree) (index : ℕ) →
 calls-none l t index out k = (λ e. cc, λ (h : CallsAt l t index k). absurd (out h.known))
 
 -- no word so far
-pub row-start : (l : Listing) (t : Tree) (row : List Bool) → length row ≡ part_count l →
+pub row-start : (l : Listing) (t : Tree) (row : List Bool) → length row ≡ function_count l →
     ((k : ℕ) → is_met row k ≡ false) → IsRowTo l t 0 row
 row-start l t row count none = record {
   count = count;
@@ -125,44 +126,47 @@ pos k never =
 
 -- all words of a function
 pub row-all : (l : Listing) (t : Tree) (p : ℕ) (row : List Bool) →
-    IsListing (calls l) → p < part_count l → t ≡ part_tree (calls l) (part_at l p) →
+    IsListing (calls l) → p < function_count l → t ≡ function_tree (calls l) (function_at l p) →
     IsRowTo l t (length t.words) row → IsRow l p row
 row-all l t p row listing within same r = record {
   count = r.count;
   exact = λ k lt. (λ h. there k ((r.exact k).0 h), λ h. (r.exact k).1 (here k lt h));
 }
   where
-    is : IsSection (range (calls l) (part_at l p))
-    is = part-section l listing p within
+    is : IsSection (range (calls l) (function_at l p))
+    is = function-section l listing p within
 
     d : IsDraft t
     d =
-        subst IsDraft (sym same) (draft-is (patched_word (calls l) (part_at l p))
-        (range (calls l) (part_at l p)) l.loops is listing.loops)
+        subst IsDraft (sym same) (draft-is (patched_word (calls l) (function_at l p))
+        (range (calls l) (function_at l p)) l.loops is listing.loops)
 
     there : (k : ℕ) → Before (CallsAt l t) (length t.words) k →
-        DoesCall (calls l) (part_at l p) (part_at l k)
+        DoesCall (calls l) (function_at l p) (function_at l k)
     there k h =
         let z = routine-of l k h.2.routine h.2.listed in
         record {
           routine = z.0;
           word = address t h.0;
           known =
-              (reach (agrees (calls l) (part_at l p) is)
+              (reach (agrees (calls l) (function_at l p) is)
               (subst (λ y. Reachable (graph y) (address t h.0)) same h.2.known)).0;
           call = h.2.call ∙ z.1;
           to = z.1;
         }
 
-    here : (k : ℕ) → k < part_count l → (h : DoesCall (calls l) (part_at l p) (part_at l k)) →
+    here : (k : ℕ) → k < function_count l → (h : DoesCall (calls l) (function_at l p)
+        (function_at l k)) →
         Before (CallsAt l t) (length t.words) k
     here k lt h =
         let known : Reachable (graph t) h.word = subst (λ y. Reachable (graph y) h.word) (sym same)
-        (back (part (calls l) (part_at l p)).loops (agrees (calls l) (part_at l p) is) h.known).0 in
+        (back (function (calls l) (function_at l p)).loops (agrees (calls l) (function_at l p) is)
+        h.known).0 in
         let lies = reachable-lies t d h.word known in
         let at = index-address t d h.word (reachable-aligned t d h.word known) lies in
         let some : 0 < k = pos k (λ e.
-        let y : None ≡ Some h.routine = subst (λ i. part_at l i ≡ Some h.routine) e h.to in cc) in (
+        let y : None ≡ Some h.routine = subst (λ i. function_at l i ≡ Some h.routine) e
+        h.to in cc) in (
           (h.word - t.section.from) / 4,
           index-within t d h.word lies,
           record {
@@ -175,7 +179,7 @@ row-all l t p row listing within same r = record {
 
 pub table-start : (l : Listing) → IsTableTo l 0 []
 table-start l = record {
-  count = let z : 0 ≡ 0 * part_count l = omega arith in z;
+  count = let z : 0 ≡ 0 * function_count l = omega arith in z;
   exact = λ j k lt h. absurd (omega arith);
 }
 
@@ -187,29 +191,29 @@ table-next l c table row table' is r t = subst (IsTableTo l (c + 1)) (sym is) (r
       let z = length-append table row in
       let a = t.count in
       let b = r.count in
-      (let y : length table + length row ≡ (c + 1) * part_count l = omega arith in z ∙ y);
+      (let y : length table + length row ≡ (c + 1) * function_count l = omega arith in z ∙ y);
   exact = λ j k lt h. go j k h (let z : (j < c) ⊎ (j ≡ c) = grind arith in z);
 })
   where
-    go : (j k : ℕ) → k < part_count l → (j < c) ⊎ (j ≡ c) →
-        (slice_index_or (table ++ row) (j * part_count l + k) false ≡ true) ↔ DoesCall (calls l)
-        (part_at l j) (part_at l k)
+    go : (j k : ℕ) → k < function_count l → (j < c) ⊎ (j ≡ c) →
+        (slice_index_or (table ++ row) (j * function_count l + k) false ≡ true) ↔ DoesCall (calls l)
+        (function_at l j) (function_at l k)
     go j k h (inl below) =
-        let rows : (j + 1) * part_count l ≤ c * part_count l =
-        mul-le-mul_right (part_count l) (let z : j + 1 ≤ c = omega arith in z) in
-        let at : slice_index_or (table ++ row) (j * part_count l + k) false
-        ≡ slice_index_or table (j * part_count l + k) false =
-        get_or-append table row false (j * part_count l + k) (let a = t.count in omega arith) in
-        subst (λ b. (b ≡ true) ↔ DoesCall (calls l) (part_at l j) (part_at l k)) (sym at)
+        let rows : (j + 1) * function_count l ≤ c * function_count l =
+        mul-le-mul_right (function_count l) (let z : j + 1 ≤ c = omega arith in z) in
+        let at : slice_index_or (table ++ row) (j * function_count l + k) false
+        ≡ slice_index_or table (j * function_count l + k) false =
+        get_or-append table row false (j * function_count l + k) (let a = t.count in omega arith) in
+        subst (λ b. (b ≡ true) ↔ DoesCall (calls l) (function_at l j) (function_at l k)) (sym at)
         (t.exact j k below h)
     go j k h (inr same) =
-        let at : slice_index_or (table ++ row) (j * part_count l + k) false
+        let at : slice_index_or (table ++ row) (j * function_count l + k) false
         ≡ slice_index_or row k false =
         ap (λ i. slice_index_or (table ++ row) i false) (let a = t.count in
-        let z : j * part_count l
-        + k ≡ length table + k = subst (λ i. i * part_count l + k ≡ length table + k)
-        (sym same) (let y : c * part_count l + k ≡ length table + k = omega arith in y) in z)
+        let z : j * function_count l
+        + k ≡ length table + k = subst (λ i. i * function_count l + k ≡ length table + k)
+        (sym same) (let y : c * function_count l + k ≡ length table + k = omega arith in y) in z)
         ∙ get_or-append-add table row k false in
-        subst (λ b. (b ≡ true) ↔ DoesCall (calls l) (part_at l j) (part_at l k)) (sym at)
-        (subst (λ i. (slice_index_or row k false ≡ true) ↔ DoesCall (calls l) (part_at l i)
-        (part_at l k)) (sym same) (r.exact k h))
+        subst (λ b. (b ≡ true) ↔ DoesCall (calls l) (function_at l j) (function_at l k)) (sym at)
+        (subst (λ i. (slice_index_or row k false ≡ true) ↔ DoesCall (calls l) (function_at l i)
+        (function_at l k)) (sym same) (r.exact k h))

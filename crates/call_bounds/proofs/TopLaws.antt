@@ -8,7 +8,7 @@ use Rattle.region_tree.specs.Walk.{Positions}
 use Rattle.bound_calc.specs.Best.{Costs, Either, IsBest, ceiling}
 use Rattle.bound_calc.specs.Matrices.{entry}
 use Rattle.bound_calc.specs.Passing.{ReachesAt}
-use Rattle.bound_calc.specs.Propagation.{WaysOn, matrix_at, no_matrix}
+use Rattle.bound_calc.specs.Propagation.{CostsOn, matrix_at, no_matrix}
 use Rattle.bound_calc.specs.Tops.{IsTop}
 use Rattle.bound_calc.specs.declared.matrix.Matrix.{Matrix}
 use Rattle.bound_calc.proofs.PassLaws.{reach-more}
@@ -78,8 +78,9 @@ top-more {f} {g} {old} {mid} {new} n fg gf x y =
     met (inl same) = before same x.met
     met (inr (p, c, q, h, e)) = inr (p, c, q, (n, omega arith, h), e)
 
-pub most-none : (t : Tree) (s : Positions) (ways into : WaysOn) → IsMostBelow t s ways into 0 0
-most-none t s ways into = record {
+pub most-none : (t : Tree) (s : Positions) (word_costs into : CostsOn) → IsMostBelow t s
+    word_costs into 0 0
+most-none t s word_costs into = record {
   at = [];
   count = refl;
   best = λ k lt. absurd (omega arith);
@@ -87,17 +88,20 @@ most-none t s ways into = record {
 }
 
 -- one word more
-pub most-more : (t : Tree) (s : Positions) (ways into : WaysOn) (n old new : ℕ) (m : Matrix) →
-    IsMostBelow t s ways into n old → IsBest (entry m) (ReachesAt t s ways n) →
-    IsTop (EndsBy t s ways into n (entry m)) old new → IsMostBelow t s ways into (n + 1) new
-most-more t s ways into n old new m b best top = record {
+pub most-more : (t : Tree) (s : Positions) (word_costs into : CostsOn) (n old new : ℕ)
+    (m : Matrix) →
+    IsMostBelow t s word_costs into n old → IsBest (entry m) (ReachesAt t s word_costs n) →
+    IsTop (EndsBy t s word_costs into n (entry m)) old new → IsMostBelow t s word_costs
+    into (n + 1) new
+most-more t s word_costs into n old new m b best top = record {
   at = b.at ++ m ∷ [];
   count = length_push b.at m ∙ ap (λ n. n + 1) b.count;
-  best = reach-more b.at n m (λ k. ReachesAt t s ways k) b.count b.best best;
+  best = reach-more b.at n m (λ k. ReachesAt t s word_costs k) b.count b.best best;
   top =
-      top-more n (λ k p c q lt h. subst (λ a. EndsBy t s ways into k a p c q) (sym (kept k lt)) h)
-      (λ k p c q lt h. subst (λ a. EndsBy t s ways into k a p c q) (kept k lt) h) b.top
-      (subst (λ a. IsTop (EndsBy t s ways into n a) old new) (sym here) top);
+      top-more n (λ k p c q lt h. subst (λ a. EndsBy t s word_costs into k a p c q)
+      (sym (kept k lt)) h)
+      (λ k p c q lt h. subst (λ a. EndsBy t s word_costs into k a p c q) (kept k lt) h) b.top
+      (subst (λ a. IsTop (EndsBy t s word_costs into n a) old new) (sym here) top);
 }
   where
     kept : (k : ℕ) → k < n → matrix_at (b.at ++ m ∷ []) k ≡ matrix_at b.at k
@@ -110,21 +114,22 @@ most-more t s ways into n old new m b best top = record {
         ∙ ap (λ i. slice_index_or (m ∷ []) i no_matrix) (let z : n - n ≡ 0 = omega arith in z))
 
 -- by word, or by where a path ends
-pub ends-either : (t : Tree) (s : Positions) (ways into : WaysOn) (at : List Matrix)
-    {n old new : ℕ} → IsTop (Any (λ k. EndsBy t s ways into k (matrix_at at k)) n) old new →
+pub ends-either : (t : Tree) (s : Positions) (word_costs into : CostsOn) (at : List Matrix)
+    {n old new : ℕ} → IsTop (Any (λ k. EndsBy t s word_costs into k (matrix_at at k)) n) old new →
     IsTop (Either (Any (λ k. EndsAt (into k) (matrix_at at k)) n)
-    (Any (LeavesAt t s ways at) n)) old new
-ends-either t s ways into at {n} x = top-same there back x
+    (Any (LeavesAt t s word_costs at) n)) old new
+ends-either t s word_costs into at {n} x = top-same there back x
   where
-    there : (p c q : ℕ) → Any (λ k. EndsBy t s ways into k (matrix_at at k)) n p c q →
-        Either (Any (λ k. EndsAt (into k) (matrix_at at k)) n) (Any (LeavesAt t s ways at) n) p c q
+    there : (p c q : ℕ) → Any (λ k. EndsBy t s word_costs into k (matrix_at at k)) n p c q →
+        Either (Any (λ k. EndsAt (into k) (matrix_at at k)) n) (Any (LeavesAt t s word_costs
+        at) n) p c q
     there p c q (k, lt, inl (inl h)) = inl (k, lt, h)
     there p c q (k, lt, inl (inr h)) = inr (k, lt, inl h)
     there p c q (k, lt, inr h) = inr (k, lt, inr h)
 
     back : (p c q : ℕ) → Either (Any (λ k. EndsAt (into k) (matrix_at at k)) n)
-        (Any (LeavesAt t s ways at) n) p c q →
-        Any (λ k. EndsBy t s ways into k (matrix_at at k)) n p c q
+        (Any (LeavesAt t s word_costs at) n) p c q →
+        Any (λ k. EndsBy t s word_costs into k (matrix_at at k)) n p c q
     back p c q (inl (k, lt, h)) = (k, lt, inl (inl h))
     back p c q (inr (k, lt, inl h)) = (k, lt, inl (inr h))
     back p c q (inr (k, lt, inr h)) = (k, lt, inr h)

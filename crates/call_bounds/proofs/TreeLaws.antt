@@ -8,23 +8,25 @@ use Rattle.region_tree.specs.Tree.{IsSection, Tree, graph}
 use Rattle.region_tree.specs.declared.tree.TreeNo.{TreeNo}
 use Rattle.call_bounds.specs.Build.{AreTreesTo, IsCauseOf, IsTried, join_causes, no_causes}
 use Rattle.call_bounds.specs.Calls.{IsReached, range}
-use Rattle.call_bounds.specs.Listing.{ArePartTrees, IsTreeOf, Listing}
-use Rattle.call_bounds.specs.Listing.{calls, part_at, part_count, tree_at}
-use Rattle.call_bounds.specs.Patched.{part_tree}
+use Rattle.call_bounds.specs.Listing.{AreFunctionTrees, IsTreeOf, Listing}
+use Rattle.call_bounds.specs.Listing.{calls, function_at, function_count, tree_at}
+use Rattle.call_bounds.specs.Patched.{function_tree}
 use Rattle.call_bounds.specs.declared.causes.Causes.{Causes}
 use Rattle.call_bounds.proofs.CauseLaws.{causes-allowed, causes-next, causes-other}
 use Rattle.call_bounds.proofs.CauseLaws.{causes-refused, causes-start, joined-none}
 
-pub tried-other : (l : Listing) (k : ℕ) → (IsReached (calls l) (part_at l k) → ⊥) →
+pub tried-other : (l : Listing) (k : ℕ) → (IsReached (calls l) (function_at l k) → ⊥) →
     IsTried l k None no_causes
 tried-other l k out = record { causes = causes-other l k out; built = λ e. IsTreeOf.other out }
 
-pub tried-tree : (l : Listing) (k : ℕ) (t : Tree) → IsSection (range (calls l) (part_at l k)) →
-    IsReached (calls l) (part_at l k) → IsAllowed (graph (part_tree (calls l) (part_at l k))) →
-    t ≡ part_tree (calls l) (part_at l k) → IsTried l k (Some t) no_causes
+pub tried-tree : (l : Listing) (k : ℕ) (t : Tree) → IsSection (range (calls l) (function_at l k)) →
+    IsReached (calls l) (function_at l k) → IsAllowed (graph (function_tree (calls l)
+    (function_at l k))) →
+    t ≡ function_tree (calls l) (function_at l k) → IsTried l k (Some t) no_causes
 tried-tree l k t is r ok e = record {
   causes = causes-allowed l k is ok;
-  built = λ _. subst (λ t. IsTreeOf (calls l) (part_at l k) (Some t)) (sym e) (IsTreeOf.reached r);
+  built = λ _. subst (λ t. IsTreeOf (calls l) (function_at l k) (Some t)) (sym e)
+      (IsTreeOf.reached r);
 }
 
 known : (t : TreeNo) (f : Causes) → IsCauseOf t f → f ≡ no_causes → ⊥
@@ -36,8 +38,9 @@ known (TreeNo.UnboundedBackEdge a) f h e =
 known TreeNo.NoMemory f h e = h
 
 pub tried-refused : (l : Listing) (k : ℕ) (t : TreeNo) (f : Causes) →
-    IsSection (range (calls l) (part_at l k)) → IsReached (calls l) (part_at l k) →
-    IsRefused (graph (part_tree (calls l) (part_at l k))) t → IsCauseOf t f → IsTried l k None f
+    IsSection (range (calls l) (function_at l k)) → IsReached (calls l) (function_at l k) →
+    IsRefused (graph (function_tree (calls l) (function_at l k))) t → IsCauseOf t f →
+    IsTried l k None f
 tried-refused l k t f is r h e =
     record { causes = causes-refused l k t f is r h e; built = λ none. absurd (known t f e none) }
 
@@ -58,18 +61,18 @@ trees-next l c trees trees' tree f g is t a =
     })
   where
     go : (f ≡ no_causes) × (g ≡ no_causes) → (k : ℕ) → (k < c) ⊎ (k ≡ c) →
-        IsTreeOf (calls l) (part_at l k) (tree_at (trees ++ tree ∷ []) k)
+        IsTreeOf (calls l) (function_at l k) (tree_at (trees ++ tree ∷ []) k)
     go z k (inl below) =
-        subst (IsTreeOf (calls l) (part_at l k))
+        subst (IsTreeOf (calls l) (function_at l k))
         (sym (get_or-append trees (tree ∷ []) None k (omega (arith, a.count))))
         (a.built z.0 k below)
     go z k (inr same) =
         let at : tree_at (trees ++ tree ∷ []) k ≡ tree = ap (λ i. tree_at (trees ++ tree ∷ []) i)
         (let y = a.count in let x : k ≡ length trees + 0 = omega arith in x)
         ∙ get_or-append-add trees (tree ∷ []) 0 None in
-        subst (IsTreeOf (calls l) (part_at l k)) (sym at)
-        (subst (λ i. IsTreeOf (calls l) (part_at l i) tree) (sym same) (t.built z.1))
+        subst (IsTreeOf (calls l) (function_at l k)) (sym at)
+        (subst (λ i. IsTreeOf (calls l) (function_at l i) tree) (sym same) (t.built z.1))
 
 pub trees-all : (l : Listing) (trees : List (Option Tree)) (f : Causes) → f ≡ no_causes →
-    AreTreesTo l (part_count l) trees f → ArePartTrees l trees
+    AreTreesTo l (function_count l) trees f → AreFunctionTrees l trees
 trees-all l trees f e a = record { count = a.count; each = a.built e }

@@ -12,17 +12,17 @@ use Rattle.region_tree.specs.declared.section.Section.{Section}
 use Rattle.call_bounds.specs.declared.tree.CallNo.{CallNo}
 use Rattle.call_bounds.specs.declared.tree.CallNo.TheVariants.{IndirectJump, Nesting}
 use Rattle.call_bounds.specs.declared.tree.CallNo.TheVariants.{TimedWait, UnboundedBackEdge}
-use Rattle.call_bounds.specs.Calls.{IsReached, callee, part}
+use Rattle.call_bounds.specs.Calls.{IsReached, callee, function}
 use Rattle.call_bounds.specs.Listing.{DoesCall, IsTreeOf, Listing, calls}
-use Rattle.call_bounds.specs.Listing.{part_at, part_count, tree_at}
+use Rattle.call_bounds.specs.Listing.{function_at, function_count, tree_at}
 use Rattle.call_bounds.specs.declared.causes.Causes.{Causes}
 
 -- the word at an index of a tree is reachable and calls a function
 pub record CallsAt (l : Listing) (t : Tree) (index k : ℕ) : Type 0 where
   pub known : Reachable (graph t) (address t index)
   pub routine : 0 < k
-  pub listed : k < part_count l
-  pub call : callee (calls l) (address t index) ≡ part_at l k
+  pub listed : k < function_count l
+  pub call : callee (calls l) (address t index) ≡ function_at l k
 
 -- a function was marked, if there is one
 pub record Marked (o : Option ℕ) (old new : List Bool) : Type 0 where
@@ -33,35 +33,36 @@ pub record Marked (o : Option ℕ) (old new : List Bool) : Type 0 where
 
 -- the functions that the words before an index call
 pub record IsRowTo (l : Listing) (t : Tree) (c : ℕ) (row : List Bool) : Type 0 where
-  pub count : length row ≡ part_count l
+  pub count : length row ≡ function_count l
   pub exact : (k : ℕ) → (is_met row k ≡ true) ↔ Before (CallsAt l t) c k
 
 -- the functions that one function calls
 pub record IsRow (l : Listing) (j : ℕ) (row : List Bool) : Type 0 where
-  pub count : length row ≡ part_count l
-  pub exact : (k : ℕ) → k < part_count l → (is_met row k ≡ true) ↔
-      DoesCall (calls l) (part_at l j) (part_at l k)
+  pub count : length row ≡ function_count l
+  pub exact : (k : ℕ) → k < function_count l → (is_met row k ≡ true) ↔
+      DoesCall (calls l) (function_at l j) (function_at l k)
 
 -- which functions call which, for the callers below c
 pub record IsTableTo (l : Listing) (c : ℕ) (table : List Bool) : Type 0 where
-  pub count : length table ≡ c * part_count l
-  pub exact : (j k : ℕ) → j < c → k < part_count l →
-      (slice_index_or table (j * part_count l + k) false ≡ true) ↔
-      DoesCall (calls l) (part_at l j) (part_at l k)
+  pub count : length table ≡ c * function_count l
+  pub exact : (j k : ℕ) → j < c → k < function_count l →
+      (slice_index_or table (j * function_count l + k) false ≡ true) ↔
+      DoesCall (calls l) (function_at l j) (function_at l k)
 
 -- which functions call which, for all functions
 abbrev pub IsTable : Listing → List Bool → Type 0
-IsTable l table = IsTableTo l (part_count l) table
+IsTable l table = IsTableTo l (function_count l) table
 
 -- exactly the reached functions are marked
 pub record AreReached (l : Listing) (reached : List Bool) : Type 0 where
-  pub count : length reached ≡ part_count l
-  pub exact : (k : ℕ) → k < part_count l → (is_met reached k ≡ true) ↔
-      IsReached (calls l) (part_at l k)
+  pub count : length reached ≡ function_count l
+  pub exact : (k : ℕ) → k < function_count l → (is_met reached k ≡ true) ↔
+      IsReached (calls l) (function_at l k)
 
 -- P holds at an address of a function, which is reached
-abbrev pub InPart : Listing → (Graph → ℕ → Type 0) → ℕ → ℕ → Type 0
-InPart l P k a = IsReached (calls l) (part_at l k) × P (part (calls l) (part_at l k)) a
+abbrev pub InFunction : Listing → (Graph → ℕ → Type 0) → ℕ → ℕ → Type 0
+InFunction l P k a = IsReached (calls l) (function_at l k) × P (function (calls l)
+    (function_at l k)) a
 
 -- the lowest address of each cause, up to the first cause that holds anywhere
 pub record AreCauses (D : (Graph → ℕ → Type 0) → ℕ → Type 0) (f : Causes) : Type 0 where
@@ -95,13 +96,14 @@ join_causes f g = record {
 -- the functions below c: their causes, and their trees if there are no causes
 pub record AreTreesTo (l : Listing) (c : ℕ) (trees : List (Option Tree)) (f : Causes) : Type 0 where
   pub count : length trees ≡ c
-  pub causes : AreCauses (λ P. Before (InPart l P) c) f
-  pub built : f ≡ no_causes → (k : ℕ) → k < c → IsTreeOf (calls l) (part_at l k) (tree_at trees k)
+  pub causes : AreCauses (λ P. Before (InFunction l P) c) f
+  pub built : f ≡ no_causes → (k : ℕ) → k < c → IsTreeOf (calls l) (function_at l k)
+      (tree_at trees k)
 
 -- one function: its causes, and its tree if there are no causes
 pub record IsTried (l : Listing) (k : ℕ) (tree : Option Tree) (f : Causes) : Type 0 where
-  pub causes : AreCauses (λ P. InPart l P k) f
-  pub built : f ≡ no_causes → IsTreeOf (calls l) (part_at l k) tree
+  pub causes : AreCauses (λ P. InFunction l P k) f
+  pub built : f ≡ no_causes → IsTreeOf (calls l) (function_at l k) tree
 
 -- a reachable word with an edge out of the section
 pub record LeavesAt (g : Graph) (u : ℕ) : Type 0 where

@@ -9,7 +9,7 @@ use Rattle.fp_setup.specs.declared.loop_list.LoopSetup.{LoopSetup}
 use Rattle.region_tree.specs.Graph.{Edge, Lies}
 use Rattle.region_tree.specs.Walk.{IsNextTurn, IsOwn, Positions, counter_after}
 use Rattle.call_bounds.specs.declared.routines.Routine.{Routine}
-use Rattle.call_bounds.specs.Calls.{Calls, Counts, Part, callee, is_back, part, plain_edges}
+use Rattle.call_bounds.specs.Calls.{Calls, Counts, Function, callee, is_back, function, plain_edges}
 
 -- the calls and the positions that such paths use
 pub record Route : Type 0 where
@@ -21,9 +21,9 @@ abbrev pub route : Calls → ℕ → ℕ → Route
 route x slots thread = record { calls = x; positions = positions slots thread }
 
 -- the function of a path that has these calls open, the newest first
-abbrev pub part_in : Calls → List ℕ → Part
-part_in x [] = None
-part_in x (w ∷ open_calls) = callee x w
+abbrev pub function_in : Calls → List ℕ → Function
+function_in x [] = None
+function_in x (w ∷ open_calls) = callee x w
 
 -- a loop's counter after a call of a routine: 0 if the routine's head is the loop's
 unfoldable pub counter_after_call : Routine → LoopSetup → ℕ → ℕ
@@ -39,7 +39,7 @@ WithinBounds x k = (j : LoopSetup) → Counts x j → k j ≤ j.limit
 pub data CallWalk (x : Route) (p : ℕ) : ℕ → ℕ → List ℕ → ℕ → (LoopSetup → ℕ) → Type 0 where
   start : IsOwn x.positions p → CallWalk x p x.calls.section.from p [] 0 (λ _. 0)
   along : {u q c d r : ℕ} {s : List ℕ} {k : LoopSetup → ℕ} (e : Edge) → CallWalk x p u q s c k →
-      Contains (plain_edges x.calls u) e → Lies (part x.calls (part_in x.calls s)) e.to →
+      Contains (plain_edges x.calls u) e → Lies (function x.calls (function_in x.calls s)) e.to →
       IsNextTurn x.positions e.lag q d r →
       WithinBounds x.calls (λ j. counter_after u e.to j (k j)) →
       CallWalk x p e.to r s (c + d) (λ j. counter_after u e.to j (k j))
@@ -47,7 +47,7 @@ pub data CallWalk (x : Route) (p : ℕ) : ℕ → ℕ → List ℕ → ℕ → (
       callee x.calls u ≡ Some t → IsNextTurn x.positions redirect_lag q d r →
       CallWalk x p t.head r (u ∷ s) (c + d) (λ j. counter_after_call t j (k j))
   come_back : {u q w c d r : ℕ} {s : List ℕ} {k : LoopSetup → ℕ} → CallWalk x p u q (w ∷ s) c k →
-      is_back (x.calls.word u) ≡ true → Lies (part x.calls (part_in x.calls s)) (w + 4) →
+      is_back (x.calls.word u) ≡ true → Lies (function x.calls (function_in x.calls s)) (w + 4) →
       IsNextTurn x.positions redirect_lag q d r →
       WithinBounds x.calls (λ j. counter_after w (w + 4) j (k j)) →
       CallWalk x p (w + 4) r s (c + d) (λ j. counter_after w (w + 4) j (k j))
@@ -58,10 +58,11 @@ pub data CostsOf (x : Route) : ℕ → Type 0 where
   ends : {p u q c : ℕ} {s : List ℕ} {k : LoopSetup → ℕ} → CallWalk x p u q s c k → CostsOf x c
   leaves : {p u q c d r : ℕ} {k : LoopSetup → ℕ} (e : Edge) → CallWalk x p u q [] c k →
       Contains (plain_edges x.calls u) e →
-      (Lies (part x.calls None) e.to → ⊥) → IsNextTurn x.positions e.lag q d r → CostsOf x (c + d)
+      (Lies (function x.calls None) e.to → ⊥) → IsNextTurn x.positions e.lag q d r →
+      CostsOf x (c + d)
   goes_back : {p u q w c d r : ℕ} {k : LoopSetup → ℕ} → CallWalk x p u q (w ∷ []) c k →
       is_back (x.calls.word u) ≡ true →
-      (Lies (part x.calls None) (w + 4) → ⊥) → IsNextTurn x.positions redirect_lag q d r →
+      (Lies (function x.calls None) (w + 4) → ⊥) → IsNextTurn x.positions redirect_lag q d r →
       CostsOf x (c + d)
 
 -- The largest cost of a path that keeps the bounds: some path costs it, and none costs more.

@@ -6,12 +6,12 @@ use Rattle.call_bounds.specs.Runs.{Nested}
 
 -- Such paths have the costs of nested paths of functions. In these a call is a whole path of its
 -- routine, or the last piece of the path.
-abbrev pub CallWalksCostAsParts : Type 0
-CallWalksCostAsParts = (x : Route) → IsListing x.calls → IsCallable x.calls → (c : ℕ) →
+abbrev pub CallWalksCostAsFunctions : Type 0
+CallWalksCostAsFunctions = (x : Route) → IsListing x.calls → IsCallable x.calls → (c : ℕ) →
     CostsOf x c ↔ Nested x c
 
 -- So the largest cost of nested paths is the bound.
-abbrev pub PartsHaveTheBound : Type 0
-PartsHaveTheBound =
+abbrev pub FunctionsHaveTheBound : Type 0
+FunctionsHaveTheBound =
     (x : Route) → IsListing x.calls → IsCallable x.calls → (b : ℕ) → Nested x b →
     ((c : ℕ) → Nested x c → c ≤ b) → IsCallBound x b

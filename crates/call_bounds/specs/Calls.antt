@@ -23,11 +23,11 @@ pub record Calls : Type 0 where
   pub loops : List LoopSetup
 
 -- A function of the call graph: the section itself, or a routine.
-abbrev pub Part : Type 0
-Part = Option Routine
+abbrev pub Function : Type 0
+Function = Option Routine
 
 -- the addresses of its words, from the first to below the one after the last
-abbrev pub range : Calls → Part → Section
+abbrev pub range : Calls → Function → Section
 range x None = x.section
 range x (Some r) = record { from = r.head; to = r.last + 4 }
 
@@ -55,7 +55,7 @@ abbrev pub is_back : ℕ → Bool
 is_back w = w == 0x00008067
 
 -- whether the word at an address of a function is a return: only routines have returns
-abbrev pub returns : Calls → Part → ℕ → Bool
+abbrev pub returns : Calls → Function → ℕ → Bool
 returns x None u = false
 returns x (Some r) u = is_back (x.word u)
 
@@ -80,8 +80,8 @@ stop_unless true s = No
 stop_unless false s = s
 
 -- the control-flow graph of a function, with the loops whose head and last word both lie in it
-abbrev pub part : Calls → Part → Graph
-part x p = record {
+abbrev pub function : Calls → Function → Graph
+function x p = record {
   from = (range x p).from;
   to = (range x p).to;
   edges = λ u. inner_edges (callee x u) u (edge_list (edges_of (x.word u) u));
@@ -91,21 +91,21 @@ part x p = record {
 
 -- The functions that are reached: the section, and each routine that a reachable word of a reached
 -- function calls.
-pub data IsReached (x : Calls) : Part → Type 0 where
+pub data IsReached (x : Calls) : Function → Type 0 where
   first : IsReached x None
-  next : {p : Part} {u : ℕ} {r : Routine} → IsReached x p → Reachable (part x p) u →
+  next : {p : Function} {u : ℕ} {r : Routine} → IsReached x p → Reachable (function x p) u →
       callee x u ≡ Some r → IsReached x (Some r)
 
 -- Calls lead from one function to another: one or more, each from a reachable word of a reached
 -- function.
-pub data CallsLead (x : Calls) (p : Part) : Part → Type 0 where
-  one : {u : ℕ} {r : Routine} → IsReached x p → Reachable (part x p) u → callee x u ≡ Some r →
+pub data CallsLead (x : Calls) (p : Function) : Function → Type 0 where
+  one : {u : ℕ} {r : Routine} → IsReached x p → Reachable (function x p) u → callee x u ≡ Some r →
       CallsLead x p (Some r)
-  more : {q : Part} {u : ℕ} {r : Routine} → CallsLead x p q → IsReached x q →
-      Reachable (part x q) u → callee x u ≡ Some r → CallsLead x p (Some r)
+  more : {q : Function} {u : ℕ} {r : Routine} → CallsLead x p q → IsReached x q →
+      Reachable (function x q) u → callee x u ≡ Some r → CallsLead x p (Some r)
 
 -- the loops that count: those of the reached functions
 pub record Counts (x : Calls) (j : LoopSetup) : Type 0 where
-  pub within : Part
+  pub within : Function
   pub reached : IsReached x within
-  pub known : Contains (part x within).loops j
+  pub known : Contains (function x within).loops j

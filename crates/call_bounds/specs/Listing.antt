@@ -7,9 +7,9 @@ use Rattle.region_tree.specs.Graph.{Reachable}
 use Rattle.region_tree.specs.Tree.{Tree, section_words}
 use Rattle.region_tree.specs.declared.section.Section.{Section}
 use Rattle.call_bounds.specs.declared.routines.Routine.{Routine}
-use Rattle.call_bounds.specs.Calls.{Calls, IsReached, Part, callee, part}
+use Rattle.call_bounds.specs.Calls.{Calls, IsReached, Function, callee, function}
 use Rattle.call_bounds.specs.CallRefusals.{IsCallable, IsListing}
-use Rattle.call_bounds.specs.Patched.{part_tree}
+use Rattle.call_bounds.specs.Patched.{function_tree}
 
 -- A section, the listed routines, the words of memory from address 0 on, and the listed loops.
 pub record Listing : Type 0 where
@@ -42,18 +42,18 @@ calls l = record {
 }
 
 -- the number of functions: the section and the routines
-abbrev pub part_count : Listing → ℕ
-part_count l = length l.routines + 1
+abbrev pub function_count : Listing → ℕ
+function_count l = length l.routines + 1
 
 -- the function with a number: 0 is the section, and the routines follow in their order
-abbrev pub part_at : Listing → ℕ → Part
-part_at l k = slice_index_or (None ∷ map Some l.routines) k None
+abbrev pub function_at : Listing → ℕ → Function
+function_at l k = slice_index_or (None ∷ map Some l.routines) k None
 
 -- a reachable word of one function calls the other
-pub record DoesCall (x : Calls) (p q : Part) : Type 0 where
+pub record DoesCall (x : Calls) (p q : Function) : Type 0 where
   pub routine : Routine
   pub word : ℕ
-  pub known : Reachable (part x p) word
+  pub known : Reachable (function x p) word
   pub call : callee x word ≡ Some routine
   pub to : q ≡ Some routine
 
@@ -63,10 +63,11 @@ rank_at ranks k = slice_index ranks k
 
 -- A rank for each function, so that the callees of a reached function have lower ones.
 pub record AreRanks (l : Listing) (ranks : List ℕ) : Type 0 where
-  pub count : length ranks ≡ part_count l
-  pub few : (k : ℕ) → k < part_count l → rank_at ranks k ≤ part_count l
-  pub rise : (j k : ℕ) → j < part_count l → k < part_count l → IsReached (calls l) (part_at l j) →
-      DoesCall (calls l) (part_at l j) (part_at l k) →
+  pub count : length ranks ≡ function_count l
+  pub few : (k : ℕ) → k < function_count l → rank_at ranks k ≤ function_count l
+  pub rise : (j k : ℕ) → j < function_count l → k < function_count l → IsReached (calls l)
+      (function_at l j) →
+      DoesCall (calls l) (function_at l j) (function_at l k) →
       rank_at ranks k < rank_at ranks j
 
 -- the tree of the function with a number, if it has one
@@ -74,14 +75,14 @@ abbrev pub tree_at : List (Option Tree) → ℕ → Option Tree
 tree_at trees k = slice_index_or trees k None
 
 -- the tree of a function, if it is reached
-pub data IsTreeOf (x : Calls) (p : Part) : Option Tree → Type 0 where
-  reached : IsReached x p → IsTreeOf x p (Some (part_tree x p))
+pub data IsTreeOf (x : Calls) (p : Function) : Option Tree → Type 0 where
+  reached : IsReached x p → IsTreeOf x p (Some (function_tree x p))
   other : (IsReached x p → ⊥) → IsTreeOf x p None
 
 -- the trees of the functions
-pub record ArePartTrees (l : Listing) (trees : List (Option Tree)) : Type 0 where
-  pub count : length trees ≡ part_count l
-  pub each : (k : ℕ) → k < part_count l → IsTreeOf (calls l) (part_at l k) (tree_at trees k)
+pub record AreFunctionTrees (l : Listing) (trees : List (Option Tree)) : Type 0 where
+  pub count : length trees ≡ function_count l
+  pub each : (k : ℕ) → k < function_count l → IsTreeOf (calls l) (function_at l k) (tree_at trees k)
 
 -- a listing that keeps the rules, with as many words as the largest scratchpad has
 pub record IsCode (l : Listing) : Type 0 where
@@ -92,5 +93,5 @@ pub record IsCode (l : Listing) : Type 0 where
 pub record IsCallTree (l : Listing) (trees : List (Option Tree)) (ranks : List ℕ) : Type 0 where
   pub listing : IsListing (calls l)
   pub callable : IsCallable (calls l)
-  pub parts : ArePartTrees l trees
+  pub functions : AreFunctionTrees l trees
   pub order : AreRanks l ranks

@@ -11,12 +11,12 @@ ghost use Rattle.bound_calc.specs.Best.{In, Then};
 ghost use Rattle.bound_calc.specs.Bound.{positions};
 ghost use Rattle.bound_calc.specs.declared.cycle_bound.BoundNo.TheVariants.{Overflow};
 ghost use Rattle.bound_calc.specs.Matrices.{entry};
-ghost use Rattle.bound_calc.specs.Propagation.{AreWays, leaves, move_costs, ways_on};
+ghost use Rattle.bound_calc.specs.Propagation.{AreWordCosts, leaves, move_costs, costs_on};
 ghost use Rattle.bound_calc.specs.Tops.{IsTop};
 ghost use Rattle.call_bounds.specs.CallRefusals.{IsCallable, IsListing};
 ghost use Rattle.call_bounds.specs.CallWalk.{IsCallBound, IsTooCostly};
 ghost use Rattle.call_bounds.specs.Listing.{calls};
-ghost use Rattle.call_bounds.specs.Patched.{part_tree};
+ghost use Rattle.call_bounds.specs.Patched.{function_tree};
 ghost use Rattle.call_bounds.specs.Summaries.{AreKnown, AreSummaries, EndsAt};
 ghost use Rattle.call_bounds.specs.Summaries.{IsMost, When, route};
 ghost use Rattle.call_bounds.specs.Tops.{EndsFrom, IsMostBelow};
@@ -24,7 +24,7 @@ ghost use Rattle.call_bounds.specs.Tops.{EndsFrom, IsMostBelow};
 use crate::summary::{Summaries, callees, summaries_of};
 use crate::tree::CallTree;
 use bound_calc::{
-    BoundNo, Matrix, Pass, Steps, Ways, along, edges_at, is_out, largest, largest_through,
+    BoundNo, Matrix, Pass, Steps, WordCosts, along, edges_at, is_out, largest, largest_through,
 };
 use region_tree::{Edges, JUMP_LAG, LoopTree};
 use slot_table::SlotTable;
@@ -33,9 +33,9 @@ use std::alloc::{AllocError, Global};
 /// The largest of a number and, if the edge to `target` leaves the section, the costs at a word
 /// taken along the edge.
 fn leave_by(
-    part: &LoopTree,
+    function: &LoopTree,
     steps: &Steps,
-    way: Option<&Matrix>,
+    edge_costs: Option<&Matrix>,
     here: &Matrix,
     target: Option<u32>,
     lag: u64,
@@ -43,12 +43,12 @@ fn leave_by(
 ) -> u128
     requires lag { lag ≤ redirect_lag }
     ensures { IsTop
-        (When (leaves part.now target)
+        (When (leaves function.now target)
         (Then (In (entry here.now)) (move_costs steps.now (option_map
-        (λ m. m.now) way.entry) lag))) most result }
+        (λ m. m.now) edge_costs.entry) lag))) most result }
 {
-    if is_out(part, target) {
-        largest(&along(steps, way, here, lag, &Matrix::NONE), most)
+    if is_out(function, target) {
+        largest(&along(steps, edge_costs, here, lag, &Matrix::NONE), most)
     } else {
         most
     }
@@ -67,45 +67,63 @@ fn end_by(into: Option<&Matrix>, here: &Matrix, most: u128) -> u128
 /// The largest of a number and the costs of the paths that end at a word, go on from there into a
 /// routine, or leave the section from there.
 fn most_at(
-    part: &LoopTree,
+    function: &LoopTree,
     steps: &Steps,
-    way: Option<&Matrix>,
+    edge_costs: Option<&Matrix>,
     into: Option<&Matrix>,
     here: &Matrix,
     edges: &Edges,
     most: u128,
 ) -> u128
     requires lag { edges.now.next_lag ≤ redirect_lag }
-    ensures { IsTop (EndsFrom part.now steps.now (option_map (λ m. m.now) way.entry)
+    ensures { IsTop (EndsFrom function.now steps.now (option_map (λ m. m.now) edge_costs.entry)
         (option_map (λ m. m.now) into.entry) edges.now (entry here.now)) most result }
 {
     let ended = end_by(into, here, most);
-    let next = leave_by(part, steps, way, here, edges.next, edges.next_lag, ended);
-    leave_by(part, steps, way, here, edges.jump, JUMP_LAG, next)
+    let next = leave_by(
+        function,
+        steps,
+        edge_costs,
+        here,
+        edges.next,
+        edges.next_lag,
+        ended,
+    );
+    leave_by(
+        function, steps, edge_costs, here, edges.jump, JUMP_LAG, next,
+    )
 }
 
 /// The largest cost of a path that ends at a word of the section, in a routine that it calls, or
 /// outside. It holds the costs at one word at a time.
 fn most_over(
     alloc: Global,
-    part: &LoopTree,
+    function: &LoopTree,
     steps: &Steps,
-    ways: &Ways,
-    into: &Ways,
+    word_costs: &WordCosts,
+    into: &WordCosts,
 ) -> Result<u128, AllocError>
-    requires own { AreWays steps.now (ways_on ways.now) }
-    ensures most { IfOk result (IsMostBelow part.now steps.now (ways_on ways.now)
-        (ways_on into.now) (length part.now.words)) }
-    ensures rules { IsTree part.now }
+    requires own { AreWordCosts steps.now (costs_on word_costs.now) }
+    ensures most { IfOk result (IsMostBelow function.now steps.now (costs_on word_costs.now)
+        (costs_on into.now) (length function.now.words)) }
+    ensures rules { IsTree function.now }
 {
-    let section = part.section();
-    let mut pass = Pass::new(alloc, part, steps, ways)?;
+    let section = function.section();
+    let mut pass = Pass::new(alloc, function, steps, word_costs)?;
     let mut most = 0;
     for index in 0..((section.to - section.from) / 4) as usize {
-        pass.visit(alloc, part, steps, ways, index)?;
-        let edges = edges_at(part, index);
-        let way = ways.at(index);
-        most = most_at(part, steps, way, into.at(index), pass.here(), &edges, most);
+        pass.visit(alloc, function, steps, word_costs, index)?;
+        let edges = edges_at(function, index);
+        let edge_costs = word_costs.at(index);
+        most = most_at(
+            function,
+            steps,
+            edge_costs,
+            into.at(index),
+            pass.here(),
+            &edges,
+            most,
+        );
     }
     Ok(most)
 }
@@ -114,21 +132,21 @@ fn most_over(
 fn most_in(
     alloc: Global,
     tree: &CallTree,
-    part: &LoopTree,
+    function: &LoopTree,
     steps: &Steps,
     done: &Summaries,
 ) -> Result<u128, AllocError>
-    requires part { part.now ≡ part_tree (calls tree.now) None }
+    requires function { function.now ≡ function_tree (calls tree.now) None }
     requires slot { (p : ℕ) × IsOwn steps.now p }
     requires done { AreSummaries tree.now steps.now done.now.through.items done.now.deep.items }
     requires known { AreKnown tree.now steps.now (λ k. Unit {0}) done.now.through.items
         done.now.deep.items }
     ensures { IfOk result (IsMost (route tree.now steps.now)) }
 {
-    let callees = callees(alloc, tree, part.section())?;
-    let ways = Ways::new(&callees, &done.through);
-    let into = Ways::new(&callees, &done.deep);
-    most_over(alloc, part, steps, &ways, &into)
+    let callees = callees(alloc, tree, function.section())?;
+    let word_costs = WordCosts::new(&callees, &done.through);
+    let into = WordCosts::new(&callees, &done.deep);
+    most_over(alloc, function, steps, &word_costs, &into)
 }
 
 /// The largest cost of a path of the section, from the summaries of the routines.
@@ -140,7 +158,7 @@ fn most(alloc: Global, tree: &CallTree, steps: &Steps, done: &Summaries) -> Resu
     ensures { IfOk result (IsMost (route tree.now steps.now)) }
 {
     match tree.tree(0) {
-        Some(part) => most_in(alloc, tree, part, steps, done),
+        Some(function) => most_in(alloc, tree, function, steps, done),
         None => Ok(0),
     }
 }

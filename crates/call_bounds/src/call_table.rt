@@ -6,7 +6,7 @@ ghost use Rattle.region_tree.specs.Search.{IsMet};
 ghost use Rattle.region_tree.specs.Tree.{IsDraft};
 ghost use Rattle.call_bounds.specs.Build.{CallsAt, IsRow, IsRowTo, IsTable, Marked};
 ghost use Rattle.call_bounds.specs.CallRefusals.{IsListing};
-ghost use Rattle.call_bounds.specs.Listing.{calls, part_count};
+ghost use Rattle.call_bounds.specs.Listing.{calls, function_count};
 
 use crate::code::Code;
 use region_tree::{Draft, reachable};
@@ -27,12 +27,12 @@ fn callee_at(code: &Code, draft: &Draft, met: &[bool], index: usize) -> Option<u
 }
 
 /// Marks a function, if there is one.
-fn mark(row: &mut Vec<bool>, part: Option<usize>)
-    requires { IfSome part (λ k. k < length row.old.items) }
-    ensures { Marked part row.old.items row.new.items }
+fn mark(row: &mut Vec<bool>, function: Option<usize>)
+    requires { IfSome function (λ k. k < length row.old.items) }
+    ensures { Marked function row.old.items row.new.items }
 {
-    if let Some(part) = part {
-        row[part] = true;
+    if let Some(function) = function {
+        row[function] = true;
     }
 }
 
@@ -49,7 +49,7 @@ fn row_of(alloc: Global, code: &Code, draft: &Draft, met: &[bool]) -> Result<Vec
     requires { IsMet draft.now met.now }
     ensures { IfOk result (λ row. IsRowTo code.now draft.now (length draft.now.words) row.items) }
 {
-    let mut row = unmarked(alloc, code.part_count())?;
+    let mut row = unmarked(alloc, code.function_count())?;
     for index in 0..draft.len() {
         let callee = callee_at(code, draft, met, index);
         mark(&mut row, callee);
@@ -58,12 +58,12 @@ fn row_of(alloc: Global, code: &Code, draft: &Draft, met: &[bool]) -> Result<Vec
 }
 
 /// Which functions one function calls.
-fn callees(alloc: Global, code: &Code, part: usize) -> Result<Vec<bool>, AllocError>
+fn callees(alloc: Global, code: &Code, function: usize) -> Result<Vec<bool>, AllocError>
     requires listing { IsListing (calls code.now) }
-    requires part { part < part_count code.now }
-    ensures { IfOk result (λ row. IsRow code.now part row.items) }
+    requires function { function < function_count code.now }
+    ensures { IfOk result (λ row. IsRow code.now function row.items) }
 {
-    let draft = code.draft(alloc, part)?;
+    let draft = code.draft(alloc, function)?;
     let met = reachable(alloc, &draft)?;
     row_of(alloc, code, &draft, met.as_slice())
 }
@@ -78,8 +78,8 @@ pub fn call_table(alloc: Global, code: &Code) -> Result<Vec<bool>, AllocError>
     ensures { IfOk result (λ table. IsTable code.now table.items) }
 {
     let mut table = Vec::new(alloc);
-    for part in 0..code.part_count() {
-        let row = callees(alloc, code, part)?;
+    for function in 0..code.function_count() {
+        let row = callees(alloc, code, function)?;
         table.extend_from_slice(row.as_slice())?;
     }
     Ok(table)

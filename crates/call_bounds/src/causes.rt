@@ -3,8 +3,8 @@
 ghost use Rattle.std.specs.Prelude.{◌≡◌, ◌<◌, [], ◌∷◌, ◌++◌, IfOk, IfErr, OnOk, MatchResult};
 ghost use Rattle.call_bounds.specs.Build.{AreReached, AreTreesTo, IsCauseOf};
 ghost use Rattle.call_bounds.specs.Build.{IsFirst, IsTried, join_causes, no_causes};
-ghost use Rattle.call_bounds.specs.CallRefused.{ArePartsAllowed, IsTreeRefused};
-ghost use Rattle.call_bounds.specs.Listing.{ArePartTrees, calls, part_count};
+ghost use Rattle.call_bounds.specs.CallRefused.{AreFunctionsAllowed, IsTreeRefused};
+ghost use Rattle.call_bounds.specs.Listing.{AreFunctionTrees, calls, function_count};
 ghost use Rattle.call_bounds.specs.declared.tree.CallNo.TheVariants.{NoMemory};
 
 use crate::code::Code;
@@ -83,19 +83,24 @@ struct Tried {
 }
 
 /// Builds the tree of a function, if the function is reached.
-fn try_part(alloc: Global, code: &Code, reached: &[bool], part: usize) -> Result<Tried, CallNo>
+fn try_function(
+    alloc: Global,
+    code: &Code,
+    reached: &[bool],
+    function: usize,
+) -> Result<Tried, CallNo>
     requires reached { AreReached code.now reached.now }
-    requires part { part < part_count code.now }
-    ensures tried { IfOk result (λ tried. IsTried code.now part tried.tree tried.causes) }
+    requires function { function < function_count code.now }
+    ensures tried { IfOk result (λ tried. IsTried code.now function tried.tree tried.causes) }
     ensures memory { IfErr result (λ no. no ≡ NoMemory) }
 {
-    if !reached[part] {
+    if !reached[function] {
         return Ok(Tried {
             tree: None,
             causes: Causes::NONE,
         });
     }
-    match code.tree(alloc, part) {
+    match code.tree(alloc, function) {
         Ok(tree) => Ok(Tried {
             tree: Some(tree),
             causes: Causes::NONE,
@@ -123,16 +128,16 @@ fn push_tree(trees: &mut Vec<Option<LoopTree>>, tree: Option<LoopTree>) -> Resul
 }
 
 /// Builds the trees of the reached functions.
-fn try_parts(alloc: Global, code: &Code, reached: &[bool]) -> Result<Trees, CallNo>
+fn try_functions(alloc: Global, code: &Code, reached: &[bool]) -> Result<Trees, CallNo>
     requires { AreReached code.now reached.now }
     ensures trees { IfOk result
-        (λ r. AreTreesTo code.now (part_count code.now) r.trees.items r.causes) }
+        (λ r. AreTreesTo code.now (function_count code.now) r.trees.items r.causes) }
     ensures memory { IfErr result (λ no. no ≡ NoMemory) }
 {
     let mut trees = Vec::new(alloc);
     let mut causes = Causes::NONE;
-    for part in 0..code.part_count() {
-        let tried = try_part(alloc, code, reached, part)?;
+    for function in 0..code.function_count() {
+        let tried = try_function(alloc, code, reached, function)?;
         causes = causes.join(tried.causes);
         push_tree(&mut trees, tried.tree)?;
     }
@@ -164,17 +169,17 @@ fn refuse(causes: Causes) -> Result<(), CallNo>
 ///
 /// The first of the four causes that a reached function has, with the lowest address at which one
 /// has it; or memory ran out.
-pub fn part_trees(
+pub fn function_trees(
     alloc: Global,
     code: &Code,
     reached: &[bool],
 ) -> Result<Vec<Option<LoopTree>>, CallNo>
     requires { AreReached code.now reached.now }
-    ensures trees { IfOk result (λ trees. ArePartTrees code.now trees.items) }
-    ensures allowed { OnOk result (ArePartsAllowed (calls code.now)) }
+    ensures trees { IfOk result (λ trees. AreFunctionTrees code.now trees.items) }
+    ensures allowed { OnOk result (AreFunctionsAllowed (calls code.now)) }
     ensures refused { IfErr result (IsTreeRefused (calls code.now)) }
 {
-    let tried = try_parts(alloc, code, reached)?;
+    let tried = try_functions(alloc, code, reached)?;
     refuse(tried.causes)?;
     Ok(tried.trees)
 }

@@ -109,8 +109,9 @@ impl Code {
     ghost use Rattle.call_bounds.specs.Routines.{AreRoutines};
     ghost use Rattle.call_bounds.specs.CallRefusals.{IsListing};
     ghost use Rattle.call_bounds.specs.Calls.{returns};
-    ghost use Rattle.call_bounds.specs.Listing.{calls, listing_of, part_at, part_count};
-    ghost use Rattle.call_bounds.specs.Parts.{IsCallee, range_of_part, tree_of_part, words_of_part};
+    ghost use Rattle.call_bounds.specs.Listing.{calls, listing_of, function_at, function_count};
+    ghost use Rattle.call_bounds.specs.Functions.{IsCallee, range_of_function, tree_of_function};
+    ghost use Rattle.call_bounds.specs.Functions.{words_of_function};
     ghost use Rattle.call_bounds.specs.Patched.{patched_word};
 
     /// A section of an image with its routines and loops.
@@ -166,8 +167,8 @@ impl Code {
     }
 
     /// The number of functions: the section and the routines.
-    pub fn part_count(&self) -> usize
-        ensures value { result ≡ part_count self.now }
+    pub fn function_count(&self) -> usize
+        ensures value { result ≡ function_count self.now }
         ensures few { result ≤ 65 }
         ensures rules { IsListing (calls self.now) }
     {
@@ -176,15 +177,15 @@ impl Code {
     }
 
     /// The addresses of a function, as a section.
-    pub fn range(&self, part: usize) -> Section
-        requires { part < part_count self.now }
-        ensures value { result ≡ range_of_part self.now part }
+    pub fn range(&self, function: usize) -> Section
+        requires { function < function_count self.now }
+        ensures value { result ≡ range_of_function self.now function }
         ensures rules { IsSection result }
     {
-        if part == 0 {
+        if function == 0 {
             return self.section;
         }
-        let routine = self.routines()[part - 1];
+        let routine = self.routines()[function - 1];
         Section {
             from: routine.head,
             to: routine.last + 4,
@@ -210,25 +211,25 @@ impl Code {
     }
 
     /// Whether the word at an address of a function is a return.
-    pub fn is_return(&self, part: usize, address: u32) -> bool
-        requires part { part < part_count self.now }
+    pub fn is_return(&self, function: usize, address: u32) -> bool
+        requires function { function < function_count self.now }
         requires address { address < large_size }
-        ensures { result ≡ returns (calls self.now) (part_at self.now part) address }
+        ensures { result ≡ returns (calls self.now) (function_at self.now function) address }
     {
-        part != 0 && self.word(address) == RETURN
+        function != 0 && self.word(address) == RETURN
     }
 
     /// The word at an address of a function. `LEADS_ON` replaces a call, and `LEADS_NOWHERE` a
     /// return.
-    fn patched(&self, part: usize, address: u32) -> u32
-        requires part { part < part_count self.now }
+    fn patched(&self, function: usize, address: u32) -> u32
+        requires function { function < function_count self.now }
         requires address { address < large_size }
-        ensures { result ≡ patched_word (calls self.now) (part_at self.now part) address }
+        ensures { result ≡ patched_word (calls self.now) (function_at self.now function) address }
     {
         if self.called(address).is_some() {
             return LEADS_ON;
         }
-        if self.is_return(part, address) {
+        if self.is_return(function, address) {
             return LEADS_NOWHERE;
         }
         self.word(address)
@@ -236,14 +237,14 @@ impl Code {
 
     /// The words of a function, with its calls and returns replaced.
     #[tactic(auto, unfolding(region_tree::specs::Tree::section_words))]
-    fn part_words(&self, alloc: Global, part: usize) -> Result<Vec<u32>, AllocError>
-        requires { part < part_count self.now }
-        ensures { IfOk result (λ words. words.items ≡ words_of_part self.now part) }
+    fn function_words(&self, alloc: Global, function: usize) -> Result<Vec<u32>, AllocError>
+        requires { function < function_count self.now }
+        ensures { IfOk result (λ words. words.items ≡ words_of_function self.now function) }
     {
-        let section = self.range(part);
+        let section = self.range(function);
         let mut words = Vec::new(alloc);
         for index in 0..(section.to - section.from) / 4 {
-            words.push(self.patched(part, section.from + 4 * index))?;
+            words.push(self.patched(function, section.from + 4 * index))?;
         }
         Ok(words)
     }
@@ -253,12 +254,12 @@ impl Code {
     /// # Errors
     ///
     /// Memory ran out.
-    pub fn draft(&self, alloc: Global, part: usize) -> Result<Draft, AllocError>
-        requires { part < part_count self.now }
-        ensures { IfOk result (λ draft. draft ≡ tree_of_part self.now part) }
+    pub fn draft(&self, alloc: Global, function: usize) -> Result<Draft, AllocError>
+        requires { function < function_count self.now }
+        ensures { IfOk result (λ draft. draft ≡ tree_of_function self.now function) }
     {
-        let section = self.range(part);
-        let words = self.part_words(alloc, part)?;
+        let section = self.range(function);
+        let words = self.function_words(alloc, function)?;
         Draft::from_words(alloc, section, words, &self.loops)
     }
 
@@ -267,15 +268,15 @@ impl Code {
     /// # Errors
     ///
     /// The function's first refusal as a section of its own, with its address; or memory ran out.
-    pub fn tree(&self, alloc: Global, part: usize) -> Result<LoopTree, TreeNo>
-        requires { part < part_count self.now }
-        ensures tree { IfOk result (λ tree. tree ≡ tree_of_part self.now part) }
-        ensures allowed { OnOk result (IsAllowed (graph (tree_of_part self.now part))) }
-        ensures refused { IfErr result (IsRefused (graph (tree_of_part self.now part))) }
-        ensures section { IsSection (range_of_part self.now part) }
+    pub fn tree(&self, alloc: Global, function: usize) -> Result<LoopTree, TreeNo>
+        requires { function < function_count self.now }
+        ensures tree { IfOk result (λ tree. tree ≡ tree_of_function self.now function) }
+        ensures allowed { OnOk result (IsAllowed (graph (tree_of_function self.now function))) }
+        ensures refused { IfErr result (IsRefused (graph (tree_of_function self.now function))) }
+        ensures section { IsSection (range_of_function self.now function) }
     {
-        let section = self.range(part);
-        let words = self.part_words(alloc, part)?;
+        let section = self.range(function);
+        let words = self.function_words(alloc, function)?;
         LoopTree::from_words(alloc, section, words, &self.loops)
     }
 }

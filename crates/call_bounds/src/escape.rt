@@ -6,9 +6,9 @@ ghost use Rattle.region_tree.specs.Tree.{graph};
 ghost use Rattle.call_bounds.specs.Build.{AreReached, EscapeFrom, LeadsOut, LeavesAt};
 ghost use Rattle.call_bounds.specs.CallRefused.{AreCallsAllowed, IsCallRefused};
 ghost use Rattle.call_bounds.specs.CallRefusals.{EscapeAt, IsCallable};
-ghost use Rattle.call_bounds.specs.Listing.{ArePartTrees, calls};
+ghost use Rattle.call_bounds.specs.Listing.{AreFunctionTrees, calls};
 
-use crate::causes::part_trees;
+use crate::causes::function_trees;
 use crate::code::Code;
 use crate::tree::CallNo;
 use region_tree::{LoopTree, Section, edges_of, lower};
@@ -39,7 +39,7 @@ fn leaves(tree: &LoopTree, index: usize) -> bool
 }
 
 /// The lowest address of a reachable word with an edge out of the tree's section.
-fn way_out(tree: &LoopTree) -> Option<u32>
+fn first_exit(tree: &LoopTree) -> Option<u32>
     ensures { LowestOf (LeavesAt (graph tree.now)) result }
 {
     let section = tree.section();
@@ -53,27 +53,27 @@ fn way_out(tree: &LoopTree) -> Option<u32>
 
 /// The lowest address of a reachable word with an edge out of a function, if that is a reached
 /// routine.
-fn escape_from(trees: &[Option<LoopTree>], part: usize) -> Option<u32>
-    requires { part < length trees.now }
-    ensures { LowestOf (EscapeFrom trees.now part) result }
+fn escape_from(trees: &[Option<LoopTree>], function: usize) -> Option<u32>
+    requires { function < length trees.now }
+    ensures { LowestOf (EscapeFrom trees.now function) result }
 {
-    if part == 0 {
+    if function == 0 {
         return None;
     }
-    match &trees[part] {
-        Some(tree) => way_out(tree),
+    match &trees[function] {
+        Some(tree) => first_exit(tree),
         None => None,
     }
 }
 
 /// The lowest address of a reachable word with an edge out of a reached routine.
 fn escape(code: &Code, trees: &[Option<LoopTree>]) -> Option<u32>
-    requires { ArePartTrees code.now trees.now }
+    requires { AreFunctionTrees code.now trees.now }
     ensures { LowestOf (EscapeAt (calls code.now)) result }
 {
     let mut found = None;
-    for part in 0..code.part_count() {
-        found = lower(found, escape_from(trees, part));
+    for function in 0..code.function_count() {
+        found = lower(found, escape_from(trees, function));
     }
     found
 }
@@ -82,8 +82,8 @@ fn escape(code: &Code, trees: &[Option<LoopTree>]) -> Option<u32>
 ///
 /// # Errors
 ///
-/// As for [`part_trees`]; then `Escape` with the lowest address of a reachable word with an edge
-/// out of a reached routine.
+/// As for [`function_trees`]; then `Escape` with the lowest address of a reachable word with an
+/// edge out of a reached routine.
 pub fn closed_trees(
     alloc: Global,
     code: &Code,
@@ -91,11 +91,11 @@ pub fn closed_trees(
 ) -> Result<Vec<Option<LoopTree>>, CallNo>
     requires reached { AreReached code.now reached.now }
     requires allowed { AreCallsAllowed (calls code.now) }
-    ensures trees { IfOk result (λ trees. ArePartTrees code.now trees.items) }
+    ensures trees { IfOk result (λ trees. AreFunctionTrees code.now trees.items) }
     ensures allowed { OnOk result (IsCallable (calls code.now)) }
     ensures refused { IfErr result (IsCallRefused (calls code.now)) }
 {
-    let trees = part_trees(alloc, code, reached)?;
+    let trees = function_trees(alloc, code, reached)?;
     match escape(code, trees.as_slice()) {
         None => Ok(trees),
         Some(address) => Err(CallNo::Escape { address }),

@@ -8,7 +8,7 @@ ghost use Rattle.region_tree.specs.Search.{LowestOf};
 ghost use Rattle.call_bounds.specs.Build.{AreReached, IsRankOf, IsTable};
 ghost use Rattle.call_bounds.specs.CallRefused.{IsCallRefused};
 ghost use Rattle.call_bounds.specs.CallRefusals.{OverlapAt, RecursionAt};
-ghost use Rattle.call_bounds.specs.Listing.{AreRanks, calls, part_count};
+ghost use Rattle.call_bounds.specs.Listing.{AreRanks, calls, function_count};
 
 use crate::code::Code;
 use crate::reachability::led_to;
@@ -16,24 +16,29 @@ use crate::tree::CallNo;
 use std::alloc::{AllocError, Global};
 
 /// Which functions are reached.
-fn reached_parts(alloc: Global, code: &Code, table: &[bool]) -> Result<Vec<bool>, AllocError>
+fn reached_functions(alloc: Global, code: &Code, table: &[bool]) -> Result<Vec<bool>, AllocError>
     requires { IsTable code.now table.now }
     ensures { IfOk result (λ reached. AreReached code.now reached.items) }
 {
-    let mut reached = led_to(alloc, table, code.part_count(), 0)?;
+    let mut reached = led_to(alloc, table, code.function_count(), 0)?;
     reached[0] = true;
     Ok(reached)
 }
 
 /// Whether calls lead from a function back to itself.
-fn leads_back(alloc: Global, table: &[bool], count: usize, part: usize) -> Result<bool, AllocError>
+fn leads_back(
+    alloc: Global,
+    table: &[bool],
+    count: usize,
+    function: usize,
+) -> Result<bool, AllocError>
     requires few { count ≤ 65 }
-    requires part { part < count }
+    requires function { function < count }
     requires table { length table.now ≡ count * count }
-    ensures { IfOk result (λ back. IsTrue back ↔ IsCalled count table.now part part) }
+    ensures { IfOk result (λ back. IsTrue back ↔ IsCalled count table.now function function) }
 {
-    let led = led_to(alloc, table, count, part)?;
-    Ok(led[part])
+    let led = led_to(alloc, table, count, function)?;
+    Ok(led[function])
 }
 
 /// Whether a function is reached and calls lead from it back to itself.
@@ -42,20 +47,20 @@ fn recurs(
     table: &[bool],
     reached: &[bool],
     count: usize,
-    part: usize,
+    function: usize,
 ) -> Result<bool, AllocError>
     requires few { count ≤ 65 }
-    requires part { part < count }
+    requires function { function < count }
     requires table { length table.now ≡ count * count }
     requires reached { length reached.now ≡ count }
     ensures { IfOk result
         (λ back. IsTrue back
-        ↔ ((is_met reached.now part ≡ true) × IsCalled count table.now part part)) }
+        ↔ ((is_met reached.now function ≡ true) × IsCalled count table.now function function)) }
 {
-    if !reached[part] {
+    if !reached[function] {
         return Ok(false);
     }
-    leads_back(alloc, table, count, part)
+    leads_back(alloc, table, count, function)
 }
 
 /// The lowest head of a reached routine from which calls lead back to it.
@@ -69,11 +74,11 @@ fn recursion(
     requires reached { AreReached code.now reached.now }
     ensures { IfOk result (LowestOf (RecursionAt (calls code.now))) }
 {
-    let count = code.part_count();
-    for part in 1..count {
-        let back = recurs(alloc, table, reached, count, part)?;
+    let count = code.function_count();
+    for function in 1..count {
+        let back = recurs(alloc, table, reached, count, function)?;
         if back {
-            return Ok(Some(code.range(part).from));
+            return Ok(Some(code.range(function).from));
         }
     }
     Ok(None)
@@ -85,14 +90,14 @@ fn recursion(
 ///
 /// `Recursion` with the lowest head of a reached routine from which calls lead back to it; or
 /// memory ran out.
-pub fn ordered_parts(alloc: Global, code: &Code, table: &[bool]) -> Result<Vec<bool>, CallNo>
+pub fn ordered_functions(alloc: Global, code: &Code, table: &[bool]) -> Result<Vec<bool>, CallNo>
     requires table { IsTable code.now table.now }
     requires overlap { Nowhere (OverlapAt (calls code.now)) }
     ensures reached { IfOk result (λ reached. AreReached code.now reached.items) }
     ensures allowed { OnOk result (Nowhere (RecursionAt (calls code.now))) }
     ensures refused { IfErr result (IsCallRefused (calls code.now)) }
 {
-    let reached = reached_parts(alloc, code, table)?;
+    let reached = reached_functions(alloc, code, table)?;
     match recursion(alloc, code, table, reached.as_slice())? {
         None => Ok(reached),
         Some(address) => Err(CallNo::Recursion { address }),
@@ -100,13 +105,18 @@ pub fn ordered_parts(alloc: Global, code: &Code, table: &[bool]) -> Result<Vec<b
 }
 
 /// The number of functions that are reachable by calls from one.
-fn rank_of(alloc: Global, table: &[bool], count: usize, part: usize) -> Result<usize, AllocError>
+fn rank_of(
+    alloc: Global,
+    table: &[bool],
+    count: usize,
+    function: usize,
+) -> Result<usize, AllocError>
     requires few { count ≤ 65 }
-    requires part { part < count }
+    requires function { function < count }
     requires table { length table.now ≡ count * count }
-    ensures { IfOk result (IsRankOf count table.now part) }
+    ensures { IfOk result (IsRankOf count table.now function) }
 {
-    let led = led_to(alloc, table, count, part)?;
+    let led = led_to(alloc, table, count, function)?;
     Ok(led.iter().filter(|is_led| **is_led).count())
 }
 
@@ -115,15 +125,15 @@ fn rank_of(alloc: Global, table: &[bool], count: usize, part: usize) -> Result<u
 /// # Errors
 ///
 /// Memory ran out.
-pub fn part_ranks(alloc: Global, code: &Code, table: &[bool]) -> Result<Vec<usize>, AllocError>
+pub fn function_ranks(alloc: Global, code: &Code, table: &[bool]) -> Result<Vec<usize>, AllocError>
     requires table { IsTable code.now table.now }
     requires recursion { Nowhere (RecursionAt (calls code.now)) }
     ensures { IfOk result (λ ranks. AreRanks code.now ranks.items) }
 {
-    let count = code.part_count();
+    let count = code.function_count();
     let mut ranks = Vec::new(alloc);
-    for part in 0..count {
-        let rank = rank_of(alloc, table, count, part)?;
+    for function in 0..count {
+        let rank = rank_of(alloc, table, count, function)?;
         ranks.push(rank)?;
     }
     Ok(ranks)

@@ -8,16 +8,16 @@ ghost use Rattle.call_bounds.specs.Reachability.{Spread, SpreadMet, Swept, is_me
 use std::alloc::{AllocError, Global};
 
 /// Marks the callees of one function, and returns whether any of them was new.
-fn spread(table: &[bool], count: usize, part: usize, met: &mut Vec<bool>) -> bool
+fn spread(table: &[bool], count: usize, function: usize, met: &mut Vec<bool>) -> bool
     requires few { count ≤ 65 }
-    requires part { part < count }
+    requires function { function < count }
     requires table { length table.now ≡ count * count }
     requires met { length met.old.items ≡ count }
-    ensures { Spread count table.now part count met.old.items met.new.items result }
+    ensures { Spread count table.now function count met.old.items met.new.items result }
 {
     let mut changed = false;
     for callee in 0..count {
-        if table[part * count + callee] && !met[callee] {
+        if table[function * count + callee] && !met[callee] {
             met[callee] = true;
             changed = true;
         }
@@ -26,17 +26,17 @@ fn spread(table: &[bool], count: usize, part: usize, met: &mut Vec<bool>) -> boo
 }
 
 /// Marks the callees of one function, if it is marked itself, and returns whether any was new.
-fn spread_met(table: &[bool], count: usize, part: usize, met: &mut Vec<bool>) -> bool
+fn spread_met(table: &[bool], count: usize, function: usize, met: &mut Vec<bool>) -> bool
     requires few { count ≤ 65 }
-    requires part { part < count }
+    requires function { function < count }
     requires table { length table.now ≡ count * count }
     requires met { length met.old.items ≡ count }
-    ensures { SpreadMet count table.now part met.old.items met.new.items result }
+    ensures { SpreadMet count table.now function met.old.items met.new.items result }
 {
-    if !met[part] {
+    if !met[function] {
         return false;
     }
-    spread(table, count, part, met)
+    spread(table, count, function, met)
 }
 
 /// Marks the callees of all marked functions, and returns whether any of them was new.
@@ -47,8 +47,8 @@ fn sweep(table: &[bool], count: usize, met: &mut Vec<bool>) -> bool
     ensures { Swept count table.now count met.old.items met.new.items result }
 {
     let mut changed = false;
-    for part in 0..count {
-        let more = spread_met(table, count, part, met);
+    for function in 0..count {
+        let more = spread_met(table, count, function, met);
         changed = if more { true } else { changed };
     }
     changed
@@ -72,15 +72,15 @@ pub fn led_to(
     alloc: Global,
     table: &[bool],
     count: usize,
-    part: usize,
+    function: usize,
 ) -> Result<Vec<bool>, AllocError>
     requires few { count ≤ 65 }
-    requires part { part < count }
+    requires function { function < count }
     requires table { length table.now ≡ count * count }
-    ensures { IfOk result (λ met. IsExact count table.now part met.items) }
+    ensures { IfOk result (λ met. IsExact count table.now function met.items) }
 {
     let mut met = none(alloc, count)?;
-    spread(table, count, part, &mut met);
+    spread(table, count, function, &mut met);
     let mut changed = true;
     while changed {
         changed = sweep(table, count, &mut met);

@@ -6,15 +6,15 @@ ghost use Rattle.std.specs.Option.{option_map};
 ghost use Rattle.region_tree.specs.Tree.{IsSection};
 ghost use Rattle.bound_calc.specs.Best.{Either, In, IsBest, Then};
 ghost use Rattle.bound_calc.specs.Matrices.{entry};
-ghost use Rattle.bound_calc.specs.Propagation.{Ended, ways_on};
+ghost use Rattle.bound_calc.specs.Propagation.{Ended, costs_on};
 ghost use Rattle.call_bounds.specs.Calls.{IsReached};
-ghost use Rattle.call_bounds.specs.Listing.{AreRanks, calls, part_at, part_count, rank_at};
-ghost use Rattle.call_bounds.specs.Patched.{part_tree};
+ghost use Rattle.call_bounds.specs.Listing.{AreRanks, calls, function_at, function_count, rank_at};
+ghost use Rattle.call_bounds.specs.Patched.{function_tree};
 ghost use Rattle.call_bounds.specs.Summaries.{AreCallees, AreKnown, AreReturns, AreSummaries};
 ghost use Rattle.call_bounds.specs.Summaries.{EndsAt, Ending, IsAdded, IsSummaryOf, KnowsCallees};
 
 use crate::tree::CallTree;
-use bound_calc::{Matrix, Steps, Ways, jump, reach, through};
+use bound_calc::{Matrix, Steps, WordCosts, jump, reach, through};
 use region_tree::{LoopTree, Section};
 use std::alloc::{AllocError, Global};
 
@@ -66,7 +66,7 @@ fn returns(
     number: usize,
     section: Section,
 ) -> Result<Vec<bool>, AllocError>
-    requires number { number < part_count tree.now }
+    requires number { number < function_count tree.now }
     requires section { IsSection section }
     ensures { IfOk result
         (λ returns. AreReturns tree.now number section ((section.to - section.from) / 4)
@@ -93,8 +93,8 @@ fn end_at(into: Option<&Matrix>, here: &Matrix, onto: &Matrix) -> Matrix
 }
 
 /// The costs up to any of the words, or from one of them on into a routine that it calls.
-fn deep(into: &Ways, at: &[Matrix]) -> Matrix
-    ensures { IsBest (entry result) (Ending (ways_on into.now) at.now (length at.now)) }
+fn deep(into: &WordCosts, at: &[Matrix]) -> Matrix
+    ensures { IsBest (entry result) (Ending (costs_on into.now) at.now (length at.now)) }
 {
     let mut deep = Matrix::NONE;
     for index in 0..at.len() {
@@ -115,9 +115,9 @@ fn jump_through(jump: &Matrix, steps: &Steps, at: &[Matrix], ends: &[bool]) -> M
 
 /// From a call to where a path may end: the jump, and a path to one of the routine's words or on
 /// from there into a routine that it calls.
-fn jump_deep(jump: &Matrix, into: &Ways, at: &[Matrix]) -> Matrix
+fn jump_deep(jump: &Matrix, into: &WordCosts, at: &[Matrix]) -> Matrix
     ensures { (below : _) ×
-        IsBest (entry below) (Ending (ways_on into.now) at.now (length at.now)) ×
+        IsBest (entry below) (Ending (costs_on into.now) at.now (length at.now)) ×
         IsBest (entry result) (Then (In (entry jump.now)) (In (entry below))) }
 {
     jump.chain(&deep(into, at))
@@ -128,25 +128,31 @@ fn summary_of(
     alloc: Global,
     tree: &CallTree,
     number: usize,
-    part: &LoopTree,
+    function: &LoopTree,
     steps: &Steps,
     done: &Summaries,
 ) -> Result<Summary, AllocError>
-    requires number { number < part_count tree.now }
-    requires reached { IsReached (calls tree.now) (part_at tree.now number) }
-    requires part { part.now ≡ part_tree (calls tree.now) (part_at tree.now number) }
+    requires number { number < function_count tree.now }
+    requires reached { IsReached (calls tree.now) (function_at tree.now number) }
+    requires function { function.now ≡ function_tree (calls tree.now) (function_at
+        tree.now number) }
     requires done { AreSummaries tree.now steps.now done.now.through.items done.now.deep.items }
     requires known { KnowsCallees tree.now steps.now number done.now.through.items
         done.now.deep.items }
     ensures { IfOk result (λ s. IsSummaryOf tree.now steps.now number s.through s.deep) }
 {
-    let callees = callees(alloc, tree, part.section())?;
-    let ends = returns(alloc, tree, number, part.section())?;
-    let at = reach(alloc, part, steps, &Ways::new(&callees, &done.through))?;
+    let callees = callees(alloc, tree, function.section())?;
+    let ends = returns(alloc, tree, number, function.section())?;
+    let at = reach(
+        alloc,
+        function,
+        steps,
+        &WordCosts::new(&callees, &done.through),
+    )?;
     let jump = jump(steps);
     Ok(Summary {
         through: jump_through(&jump, steps, &at, &ends),
-        deep: jump_deep(&jump, &Ways::new(&callees, &done.deep), &at),
+        deep: jump_deep(&jump, &WordCosts::new(&callees, &done.deep), &at),
     })
 }
 
@@ -159,18 +165,18 @@ fn summarise(
     done: &mut Summaries,
 ) -> Result<(), AllocError>
     requires routine { 0 < number }
-    requires number { number < part_count tree.now }
+    requires number { number < function_count tree.now }
     requires done { AreSummaries tree.now steps.now done.old.through.items done.old.deep.items }
-    requires known { IsReached (calls tree.now) (part_at tree.now number)
+    requires known { IsReached (calls tree.now) (function_at tree.now number)
         → KnowsCallees tree.now steps.now number done.old.through.items done.old.deep.items }
     ensures { OnOk result
         (IsAdded tree.now steps.now number done.old.through.items done.old.deep.items
         done.new.through.items done.new.deep.items) }
 {
-    let Some(part) = tree.tree(number) else {
+    let Some(function) = tree.tree(number) else {
         return Ok(());
     };
-    let summary = summary_of(alloc, tree, number, part, steps, done)?;
+    let summary = summary_of(alloc, tree, number, function, steps, done)?;
     done.through[number] = summary.through;
     done.deep[number] = summary.deep;
     Ok(())
@@ -226,7 +232,7 @@ pub fn summaries_of(alloc: Global, tree: &CallTree, steps: &Steps) -> Result<Sum
     ensures known { IfOk result
         (λ done. AreKnown tree.now steps.now (λ k. Unit {0}) done.through.items done.deep.items) }
 {
-    let count = tree.part_count();
+    let count = tree.function_count();
     let ranks = tree.ranks();
     let mut done = none_known(alloc, count)?;
     for rank in 0..count + 1 {

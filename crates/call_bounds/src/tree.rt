@@ -7,12 +7,12 @@ ghost use Rattle.region_tree.specs.Search.{LowestOf};
 ghost use Rattle.call_bounds.specs.Build.{IsTable};
 ghost use Rattle.call_bounds.specs.CallRefused.{IsCallRefused};
 ghost use Rattle.call_bounds.specs.CallRefusals.{IsCallable, OverlapAt};
-ghost use Rattle.call_bounds.specs.Listing.{ArePartTrees, AreRanks, calls};
+ghost use Rattle.call_bounds.specs.Listing.{AreFunctionTrees, AreRanks, calls};
 
 use crate::call_table::call_table;
 use crate::code::Code;
 use crate::escape::closed_trees;
-use crate::order::{ordered_parts, part_ranks};
+use crate::order::{function_ranks, ordered_functions};
 use crate::routines::{Routine, Routines};
 use fp_image::Image;
 use fp_setup::{LoopSetup, Loops};
@@ -114,17 +114,17 @@ fn refuse_overlap(code: &Code) -> Result<(), CallNo>
 fn trees_of(alloc: Global, code: &Code, table: &[bool]) -> Result<Vec<Option<LoopTree>>, CallNo>
     requires table { IsTable code.now table.now }
     requires overlap { Nowhere (OverlapAt (calls code.now)) }
-    ensures trees { IfOk result (λ trees. ArePartTrees code.now trees.items) }
+    ensures trees { IfOk result (λ trees. AreFunctionTrees code.now trees.items) }
     ensures allowed { OnOk result (IsCallable (calls code.now)) }
     ensures refused { IfErr result (IsCallRefused (calls code.now)) }
 {
-    let reached = ordered_parts(alloc, code, table)?;
+    let reached = ordered_functions(alloc, code, table)?;
     closed_trees(alloc, code, reached.as_slice())
 }
 
 /// The functions of code that isn't refused.
 #[derive(Drop)]
-struct BuiltParts {
+struct BuiltFunctions {
     /// The trees of the reached functions.
     trees: Vec<Option<LoopTree>>,
     /// The ranks of all functions.
@@ -132,17 +132,17 @@ struct BuiltParts {
 }
 
 /// Builds the functions of code, unless it is refused.
-fn build_parts(alloc: Global, code: &Code) -> Result<BuiltParts, CallNo>
-    ensures trees { IfOk result (λ parts. ArePartTrees code.now parts.trees.items) }
-    ensures order { IfOk result (λ parts. AreRanks code.now parts.ranks.items) }
+fn build_functions(alloc: Global, code: &Code) -> Result<BuiltFunctions, CallNo>
+    ensures trees { IfOk result (λ functions. AreFunctionTrees code.now functions.trees.items) }
+    ensures order { IfOk result (λ functions. AreRanks code.now functions.ranks.items) }
     ensures allowed { OnOk result (IsCallable (calls code.now)) }
     ensures refused { IfErr result (IsCallRefused (calls code.now)) }
 {
     refuse_overlap(code)?;
     let table = call_table(alloc, code)?;
     let trees = trees_of(alloc, code, table.as_slice())?;
-    let ranks = part_ranks(alloc, code, table.as_slice())?;
-    Ok(BuiltParts { trees, ranks })
+    let ranks = function_ranks(alloc, code, table.as_slice())?;
+    Ok(BuiltFunctions { trees, ranks })
 }
 
 impl CallTree {
@@ -152,8 +152,10 @@ impl CallTree {
     ghost use Rattle.call_bounds.specs.CallRefused.{IsCallRefused};
     ghost use Rattle.call_bounds.specs.CallRefusals.{IsCallable, IsListing};
     ghost use Rattle.call_bounds.specs.Calls.{returns};
-    ghost use Rattle.call_bounds.specs.Listing.{AreRanks, calls, listing_of, part_at, part_count};
-    ghost use Rattle.call_bounds.specs.Parts.{IsCallee, IsPartReached, calls_of, tree_of_part};
+    ghost use Rattle.call_bounds.specs.Listing.{AreRanks, calls, listing_of, function_at};
+    ghost use Rattle.call_bounds.specs.Listing.{function_count};
+    ghost use Rattle.call_bounds.specs.Functions.{IsCallee, IsFunctionReached, calls_of};
+    ghost use Rattle.call_bounds.specs.Functions.{tree_of_function};
 
     /// The tree of a section of an image, with the listed routines and loops. The section isn't
     /// empty, its ends are multiples of four, and it ends at most at 65,536.
@@ -187,11 +189,11 @@ impl CallTree {
             (IsCallRefused (calls_of (word image.now) section routines.now loops.now)) }
     {
         let code = Code::new(alloc, image, section, routines, loops)?;
-        let parts = build_parts(alloc, &code)?;
+        let functions = build_functions(alloc, &code)?;
         Ok(CallTree {
             code,
-            trees: parts.trees,
-            ranks: parts.ranks,
+            trees: functions.trees,
+            ranks: functions.ranks,
         })
     }
 
@@ -217,23 +219,24 @@ impl CallTree {
     }
 
     /// The number of functions: the section and the routines.
-    pub fn part_count(&self) -> usize
-        ensures value { result ≡ part_count self.now }
+    pub fn function_count(&self) -> usize
+        ensures value { result ≡ function_count self.now }
         ensures few { result ≤ 65 }
         ensures listing { IsListing (calls self.now) }
         ensures callable { IsCallable (calls self.now) }
     {
         let _ranks = &self.ranks;
-        self.code.part_count()
+        self.code.function_count()
     }
 
     /// The tree of a function, if it is reached. Its calls and returns are replaced.
-    pub fn tree(&self, part: usize) -> Option<&LoopTree>
-        requires { part < part_count self.now }
-        ensures { MatchOption result (IsPartReached self.now part → ⊥)
-            (λ tree. IsPartReached self.now part × (tree.now ≡ tree_of_part self.now part)) }
+    pub fn tree(&self, function: usize) -> Option<&LoopTree>
+        requires { function < function_count self.now }
+        ensures { MatchOption result (IsFunctionReached self.now function → ⊥)
+            (λ tree. IsFunctionReached self.now function × (tree.now ≡ tree_of_function self.now
+            function)) }
     {
-        self.trees[part].as_ref()
+        self.trees[function].as_ref()
     }
 
     /// The number of the function that the word at an address calls, if it is a call.
@@ -245,12 +248,12 @@ impl CallTree {
     }
 
     /// Whether the word at an address of a function is a return.
-    pub fn is_return(&self, part: usize, address: u32) -> bool
-        requires part { part < part_count self.now }
+    pub fn is_return(&self, function: usize, address: u32) -> bool
+        requires function { function < function_count self.now }
         requires address { address < large_size }
-        ensures { result ≡ returns (calls self.now) (part_at self.now part) address }
+        ensures { result ≡ returns (calls self.now) (function_at self.now function) address }
     {
-        self.code.is_return(part, address)
+        self.code.is_return(function, address)
     }
 
     /// A rank for each function: the callees of a reached function have lower ones. No rank is

@@ -1,16 +1,16 @@
 -- The theorems on visits of the machines of setups in closed loops, from those on starts.
 use Rattle.std.proofs.Common.{◌≡◌, ℕ, ◌<◌, ◌++◌, ◌∷◌, List, subst, arith}
 use Rattle.setup_model.specs.Start.{start}
-use Rattle.run_laws.specs.TraceLaws.{Machine}
-use Rattle.section_visits.specs.CallsInSettings.{CallVisitsAreBoundedInSettings}
-use Rattle.section_visits.specs.InSettings.{VisitsAreBoundedInSettings}
-use Rattle.section_visits.specs.SetupInSettings.{StartsHard}
-use Rattle.section_visits.specs.SetupVisitBound.{tree_in}
-use Rattle.section_visits.specs.Visits.{Issued}
-use Rattle.section_visits.proofs.Linking.{AreBelow, all-below, below-at}
-use Rattle.section_visits.proofs.Scheduled.{always-set}
-use Rattle.section_visits.proofs.Starts.{alike-words}
-use Rattle.section_visits.proofs.CallStarts.{alike-call-words}
+use Rattle.isolation.specs.TraceLaws.{Machine}
+use Rattle.visit_bounds.specs.CallsInSettings.{CallVisitsAreBoundedInSettings}
+use Rattle.visit_bounds.specs.InSettings.{VisitsAreBoundedInSettings}
+use Rattle.visit_bounds.specs.SetupInSettings.{StartsHard}
+use Rattle.visit_bounds.specs.SetupVisitBound.{tree_in}
+use Rattle.visit_bounds.specs.Visits.{Issued}
+use Rattle.visit_bounds.proofs.Linking.{AreBelow, all-below, below-at}
+use Rattle.visit_bounds.proofs.Scheduled.{always-set}
+use Rattle.visit_bounds.proofs.Starts.{alike-words}
+use Rattle.visit_bounds.proofs.CallStarts.{alike-call-words}
 use Rattle.closed_laws.specs.ClosedTraces.{Responses, loop_run}
 use Rattle.closed_laws.specs.ClosedVisits.{IsSetInLoop, KeepsLoopScheduling, loop_issues}
 use Rattle.closed_laws.specs.ClosedVisits.{LoopCallVisitsStayBounded}

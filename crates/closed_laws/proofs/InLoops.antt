@@ -4,11 +4,11 @@ use Rattle.trace_print.specs.Text.{text}
 use Rattle.core_model.specs.Viewed.{view, setting_of}
 use Rattle.core_model.specs.World.{Start}
 use Rattle.setup_model.specs.Start.{start}
-use Rattle.run_laws.specs.Isolation.{QuietUnpermitted}
-use Rattle.run_laws.specs.RetiredIsolation.{RetiredIsolation}
-use Rattle.loop_laws.specs.Loop.{LoopView, Plant, solo_in_loop}
-use Rattle.loop_laws.specs.LoopLaws.{LoopsExist}
-use Rattle.loop_laws.specs.Sampled.{plant_of}
+use Rattle.isolation.specs.Isolation.{QuietUnpermitted}
+use Rattle.isolation.specs.RetiredIsolation.{RetiredIsolation}
+use Rattle.closed_loops.specs.Loop.{LoopView, Plant, solo_in_loop}
+use Rattle.closed_loops.specs.LoopLaws.{LoopsExist}
+use Rattle.closed_loops.specs.Sampled.{plant_of}
 use Rattle.closed_laws.specs.ClosedTraces.{EqualLoopTraces, LoopTraceAlone, LoopTraceByPhases}
 use Rattle.closed_laws.specs.ClosedTraces.{QuietLoops, loop_run, loop_view_of, plant_in}
 use Rattle.closed_laws.proofs.Starts.{loop-start, loop-start-hard, unpermitted}

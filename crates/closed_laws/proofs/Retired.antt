@@ -10,12 +10,12 @@ use Rattle.core_model.specs.World.{Start, events, events_of, is_quiet, leaves_re
 use Rattle.core_model.specs.World.{recent, world}
 use Rattle.core_model.specs.Phases.{phases, keeps_regions, is_never_soft, leaves_regions}
 use Rattle.core_model.specs.Phased.{phase_at, phased_at, setting_in}
-use Rattle.run_laws.specs.Isolation.{StartsConfined, StartsConfinedHard}
-use Rattle.run_laws.specs.RetiredIsolation.{RetiredIsolation}
-use Rattle.run_laws.proofs.Induction.{PhasedInvariant, all_longer, always, oldest_first-own_turns}
-use Rattle.loop_laws.specs.Loop.{Plant, plant_word, loop_at, phased_loop_at, phased_in_loop}
-use Rattle.loop_laws.specs.Loop.{port_stores, solo_in_loop}
-use Rattle.loop_laws.specs.Answered.{IsAnswered, loop_view}
+use Rattle.isolation.specs.Isolation.{StartsConfined, StartsConfinedHard}
+use Rattle.isolation.specs.RetiredIsolation.{RetiredIsolation}
+use Rattle.isolation.proofs.Induction.{PhasedInvariant, all_longer, always, oldest_first-own_turns}
+use Rattle.closed_loops.specs.Loop.{Plant, plant_word, loop_at, phased_loop_at, phased_in_loop}
+use Rattle.closed_loops.specs.Loop.{port_stores, solo_in_loop}
+use Rattle.closed_loops.specs.Answered.{IsAnswered, loop_view}
 
 -- the thread's events before a cycle are the same in the world and by itself
 abbrev SoFar : Start → ℕ → ℕ → Type 0

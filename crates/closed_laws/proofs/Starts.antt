@@ -12,9 +12,9 @@ use Rattle.fp_setup.specs.Threads.{IsThread}
 use Rattle.fp_setup.specs.declared.thread_list.ThreadSetup.{ThreadSetup}
 use Rattle.region_guard.specs.Regions.{IsSize}
 use Rattle.slot_scheduler.specs.ModeWord.{mode_of}
-use Rattle.run_laws.specs.Isolation.{StartsConfined, StartsConfinedHard}
+use Rattle.isolation.specs.Isolation.{StartsConfined, StartsConfinedHard}
 use Rattle.setup_model.specs.Start.{start, thread_setup_of}
-use Rattle.run_laws.specs.TraceLaws.{Machine}
+use Rattle.isolation.specs.TraceLaws.{Machine}
 use Rattle.closed_laws.specs.ClosedTraces.{Responses, loop_run}
 
 -- a confined thread is one of the eight

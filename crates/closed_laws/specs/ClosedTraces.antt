@@ -11,10 +11,10 @@ use Rattle.core_model.specs.World.{Start, events, is_quiet}
 use Rattle.core_model.specs.Phases.{phases, keeps_regions, is_never_soft}
 use Rattle.core_model.specs.declared.phase.Phase.{Phase}
 use Rattle.setup_model.specs.Start.{start, thread_setup_of}
-use Rattle.run_laws.specs.TraceLaws.{IsConfinedHard, Machine}
-use Rattle.loop_laws.specs.Loop.{LoopView, Plant, phased_in_loop, solo_in_loop}
-use Rattle.loop_laws.specs.Answered.{loop_view}
-use Rattle.loop_laws.specs.Sampled.{plant_of, sampled_start}
+use Rattle.isolation.specs.TraceLaws.{IsConfinedHard, Machine}
+use Rattle.closed_loops.specs.Loop.{LoopView, Plant, phased_in_loop, solo_in_loop}
+use Rattle.closed_loops.specs.Answered.{loop_view}
+use Rattle.closed_loops.specs.Sampled.{plant_of, sampled_start}
 
 -- the responses of the threads' plants: the word that a plant shows, by the samples that it has
 -- taken. A thread without a plant has the inputs of the setup.

@@ -13,13 +13,13 @@ use Rattle.bound_calc.specs.Bound.{course}
 use Rattle.call_bounds.specs.CallRefusals.{IsCallable, IsListing}
 use Rattle.call_bounds.specs.CallWalk.{CostsOf as CallCostsOf, route}
 use Rattle.call_bounds.specs.Calls.{Calls}
-use Rattle.run_laws.specs.TraceLaws.{Machine}
-use Rattle.section_visits.specs.CallVisits.{IsCallVisit, KeepsReturns}
-use Rattle.section_visits.specs.CallVisits.{KeepsCallBounds}
-use Rattle.section_visits.specs.InSettings.{IsSet, Throughout}
-use Rattle.section_visits.specs.SetupInSettings.{HasSameWords, HasSameWordsOfParts, StartsHard}
-use Rattle.section_visits.specs.SetupVisitBound.{tree_in}
-use Rattle.section_visits.specs.Visits.{Issued, IsVisit, KeepsBounds, first_of, issues_of}
+use Rattle.isolation.specs.TraceLaws.{Machine}
+use Rattle.visit_bounds.specs.CallVisits.{IsCallVisit, KeepsReturns}
+use Rattle.visit_bounds.specs.CallVisits.{KeepsCallBounds}
+use Rattle.visit_bounds.specs.InSettings.{IsSet, Throughout}
+use Rattle.visit_bounds.specs.SetupInSettings.{HasSameWords, HasSameWordsOfFunctions, StartsHard}
+use Rattle.visit_bounds.specs.SetupVisitBound.{tree_in}
+use Rattle.visit_bounds.specs.Visits.{Issued, IsVisit, KeepsBounds, first_of, issues_of}
 use Rattle.closed_laws.specs.ClosedTraces.{Responses, loop_run}
 
 -- the issues of thread i in n cycles, the newest first
@@ -68,7 +68,7 @@ abbrev pub LoopCallVisitsStayBoundedInSettings : Type 0
 LoopCallVisitsStayBoundedInSettings =
     (x : Calls) (slots i b : ℕ) (m : Machine) (responses : Responses) (every n : ℕ) → IsListing x →
     IsCallable x → ((c : ℕ) → CallCostsOf (route x slots i) c → c ≤ b) →
-    KeepsRules m.setup → HasSameWordsOfParts m x → (last : Issued) (before : List Issued) →
+    KeepsRules m.setup → HasSameWordsOfFunctions m x → (last : Issued) (before : List Issued) →
     Throughout (IsSetInLoop m responses every i slots n) (first_of last before).cycle last.cycle →
     IsCallVisit x (loop_issues m responses every i n) last before → KeepsReturns x last before →
     KeepsCallBounds x last before → last.cycle - (first_of last before).cycle ≤ b
@@ -77,7 +77,7 @@ abbrev pub LoopCallVisitsStayBounded : Type 0
 LoopCallVisitsStayBounded =
     (x : Calls) (slots i b : ℕ) (m : Machine) (responses : Responses) (every n : ℕ) → IsListing x →
     IsCallable x → ((c : ℕ) → CallCostsOf (route x slots i) c → c ≤ b) →
-    KeepsRules m.setup → StartsHard m i slots → HasSameWordsOfParts m x →
+    KeepsRules m.setup → StartsHard m i slots → HasSameWordsOfFunctions m x →
     KeepsLoopScheduling m responses every n → (last : Issued) (before : List Issued) →
     IsCallVisit x (loop_issues m responses every i n) last before → KeepsReturns x last before →
     KeepsCallBounds x last before → last.cycle - (first_of last before).cycle ≤ b

@@ -1,6 +1,6 @@
 pub mod ClosedTraces
 pub mod ClosedVisits
-pub use Rattle.loop_laws.specs.Answered
-pub use Rattle.loop_laws.specs.Loop
-pub use Rattle.loop_laws.specs.Sampled
-pub use Rattle.run_laws.specs.TraceLaws
+pub use Rattle.closed_loops.specs.Answered
+pub use Rattle.closed_loops.specs.Loop
+pub use Rattle.closed_loops.specs.Sampled
+pub use Rattle.isolation.specs.TraceLaws

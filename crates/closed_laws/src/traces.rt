@@ -4,7 +4,7 @@
 ghost use Rattle.closed_laws.specs.ClosedTraces.{EqualLoopTraces, LoopTraceAlone};
 ghost use Rattle.closed_laws.specs.ClosedTraces.{LoopTraceByPhases, QuietLoops};
 
-use run_laws::{isolation, retired_isolation};
+use isolation::retired_isolation;
 
 /// If no retired issue writes a configuration register, the trace of a confined hard thread is that
 /// of the thread by itself in the loop with its plant. The seven others may run any code, and have
@@ -13,7 +13,7 @@ pub fn traces_alone_in_loop()
     ensures { LoopTraceAlone }
 {
     retired_isolation::runs_alone();
-    loop_laws::has_closed_loops();
+    closed_loops::has_closed_loops();
 }
 
 /// If such a thread has the same plant and the same view without its port's words in two machines,
@@ -28,7 +28,7 @@ pub fn writes_equal_loop_traces()
 pub fn keeps_loops_quiet()
     ensures { QuietLoops }
 {
-    isolation::stays_quiet();
+    isolation::isolation::stays_quiet();
 }
 
 /// If no retired issue writes a region register, and no setting of slots and modes makes a confined
@@ -37,5 +37,5 @@ pub fn keeps_loops_quiet()
 pub fn traces_by_phases_in_loop()
     ensures { LoopTraceByPhases }
 {
-    loop_laws::has_closed_loops();
+    closed_loops::has_closed_loops();
 }

@@ -6,7 +6,7 @@ ghost use Rattle.closed_laws.specs.ClosedVisits.{LoopCallVisitsStayBoundedInSett
 ghost use Rattle.closed_laws.specs.ClosedVisits.{LoopVisitsStayBounded};
 ghost use Rattle.closed_laws.specs.ClosedVisits.{LoopVisitsStayBoundedInSettings};
 
-use section_visits::{calls, sections};
+use visit_bounds::{calls, sections};
 
 /// A visit takes no longer than an upper bound on the cost of the section's paths with these slots,
 /// if picking uses them and the thread is hard and active during the visit, and the visit keeps the

@@ -2,7 +2,7 @@
 use Rattle.std.proofs.Common.{◌≡◌, ℕ, ◌≤◌, ◌^◌, List, Option, Some, None, Result, Ok, Err, subst}
 use Rattle.std.proofs.Common.{sym, append-nil, arith}
 use Rattle.std.specs.Prelude.{length, OnErr}
-use Rattle.fp_io.specs.Content.{AppendsFront}
+use Rattle.fp_io.specs.Content.{AppendsPrefix}
 use Rattle.std.specs.Io.KnownBytes.{Appends}
 use Rattle.fp_image.specs.declared.parts.Segment.{Segment}
 use Rattle.fp_ports.specs.PluggedPorts.{Row}
@@ -11,9 +11,9 @@ use Rattle.core_model.specs.World.{Start}
 use Rattle.setup_model.specs.Start.{start}
 use Rattle.machine.specs.Feeding.{fed_all}
 use Rattle.machine.specs.PortLaws.{FeedsStart}
-use Rattle.machine.specs.WorldRelation.{Refines, start_beside}
+use Rattle.machine.specs.WorldRelation.{Refines, start_with_ports}
 use Rattle.machine.specs.declared.state.Machine.{Machine as Loaded}
-use Rattle.run_laws.specs.TraceLaws.{Machine}
+use Rattle.isolation.specs.TraceLaws.{Machine}
 use Rattle.closed_laws.specs.ClosedTraces.{LoopTraceAlone, LoopTraceByPhases, QuietLoops}
 use Rattle.closed_laws.specs.ClosedTraces.{Responses, loop_trace}
 use Rattle.closed_runs.specs.ClosedRuns.{WritesLoops}
@@ -37,15 +37,16 @@ pub starts : FeedsStart → (s : Settings) (image : List Segment) (m : Loaded)
     (ports fed : List (Option Row)) (n : ℕ) → length ports ≡ 8 → length fed ≡ 8 → n ≤ 2 ^ 64 →
     fed ≡ fed_all s ports →
     ((ports : List (Option Row)) (n : ℕ) → length ports ≡ 8 →
-    Refines (start_beside s image ports n) 0 n m ports) →
+    Refines (start_with_ports s image ports n) 0 n m ports) →
     Refines (start s image ports n) 0 n m fed
 starts law s image m ports fed n eight also low is loaded =
-    let at : Refines (start_beside s image fed n) 0 n m fed = loaded fed n also in
-    let By : List (Option Row) → Type 0 = λ rows. Refines (start_beside s image rows n) 0 n m fed in
+    let at : Refines (start_with_ports s image fed n) 0 n m fed = loaded fed n also in
+    let By : List (Option Row) → Type 0 = λ rows. Refines (start_with_ports s image rows n)
+    0 n m fed in
     subst (λ (t : Start). Refines t 0 n m fed) (law s image ports n eight low) (subst By is at)
 
 -- a sink that was given nothing has taken a prefix of any text
-pub none-put : (told : Option (List ℕ)) (bytes : List ℕ) → AppendsFront told told bytes
+pub none-put : (contents : Option (List ℕ)) (bytes : List ℕ) → AppendsPrefix contents contents bytes
 none-put None bytes = tt
 none-put (Some xs) bytes = (0, omega arith, sym (append-nil xs))
 

@@ -8,8 +8,8 @@ use Rattle.fp_setup.specs.Rules.{KeepsRules}
 use Rattle.fp_setup.specs.Settings.{Settings}
 use Rattle.fp_setup.specs.declared.thread_list.ThreadSetup.{ThreadSetup}
 use Rattle.trace_print.specs.Text.{text}
-use Rattle.loop_laws.specs.Loop.{phased_in_loop, solo_in_loop}
-use Rattle.run_laws.specs.TraceLaws.{IsConfinedHard, Machine}
+use Rattle.closed_loops.specs.Loop.{phased_in_loop, solo_in_loop}
+use Rattle.isolation.specs.TraceLaws.{IsConfinedHard, Machine}
 use Rattle.closed_laws.specs.ClosedTraces.{IsConfinedThroughLoop, IsLoopQuiet, KeepsLoopRegions}
 use Rattle.closed_laws.specs.ClosedTraces.{Responses, loop_phases, loop_trace, loop_view_of}
 use Rattle.closed_laws.specs.ClosedTraces.{plant_in}

@@ -2,7 +2,7 @@ pub mod ClosedRuns
 pub use Rattle.closed_laws.specs.ClosedTraces
 pub use Rattle.loop_runs.specs.Looping
 pub use Rattle.loop_runs.specs.Plants
-pub use Rattle.run_laws.specs.TraceLaws
+pub use Rattle.isolation.specs.TraceLaws
 pub use Rattle.timer_unit.specs.Time
 pub use Rattle.fp_ports.specs.PluggedPorts
 pub use Rattle.setup_model.specs.Start

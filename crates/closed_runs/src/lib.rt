@@ -4,8 +4,8 @@
 #![tactic(auto)]
 
 ghost use Rattle.std.specs.Prelude.{◌≡◌, ℕ, ◌^◌, ◌/◌, ◌<◌, ◌≤◌, Err, IfOk, OnErr, OnOk, vec_len};
-ghost use Rattle.fp_io.specs.Causes.{Rose};
-ghost use Rattle.fp_io.specs.Content.{AppendsFront};
+ghost use Rattle.fp_io.specs.Causes.{HasRisen};
+ghost use Rattle.fp_io.specs.Content.{AppendsPrefix};
 ghost use Rattle.fp_ports.specs.PluggedPorts.{rows_of};
 ghost use Rattle.setup_model.specs.Start.{start};
 ghost use Rattle.timer_unit.specs.Time.{most_cycles};
@@ -19,7 +19,7 @@ use fp_image::Image;
 use fp_io::Sink;
 use fp_ports::Ports;
 use fp_setup::Setup;
-use loop_runs::{LoopStop, Plants, run_loops};
+use loop_runs::{LoopStop, Plant, Plants, run_loops};
 use machine::{Machine, feed_inputs, feeds_the_start};
 use std::alloc::Global;
 
@@ -33,12 +33,12 @@ use std::alloc::Global;
 /// # Errors
 ///
 /// Out of memory, or a fault of the sink was counted in this call. A prefix of the text was put.
-pub fn run_setup_loops<K: Sink>(
+pub fn run_setup_loops<P: Plant, K: Sink>(
     alloc: Global,
     setup: &Setup,
     image: &Image,
     ports: &mut Ports,
-    plants: &mut Plants,
+    plants: &mut Plants<P>,
     thread: u8,
     every: u64,
     cycles: u64,
@@ -50,20 +50,20 @@ pub fn run_setup_loops<K: Sink>(
     requires plants { vec_len plants.old ≡ 8 }
     ensures put { OnOk result (WritesLoops
         (machine_with setup.now image.now (rows_of latched word_at ports.old.items))
-        (response_at (responses_of response plants.old.items)) every thread cycles
+        (response_at (responses_of P.response plants.old.items)) every thread cycles
         (K.taken out.old) (K.taken out.new)) }
     ensures looped { IfOk result (λ machine. (n : ℕ) → cycles ≤ n → n ≤ 2 ^ 64
-        → HasLooped (responses_of response plants.old.items)
-        (responses_of response plants.new.items) every
+        → HasLooped (responses_of P.response plants.old.items)
+        (responses_of P.response plants.new.items) every
         (start setup.now image.now (rows_of latched word_at ports.old.items) n) n
         (cycles / every) 8 cycles thread machine (rows_of latched word_at ports.new.items)
         (K.taken out.old) (K.taken out.new)) }
     ensures at { IfOk result (λ machine. machine.at ≡ cycles) }
-    ensures stopped { OnErr result (AppendsFront (K.taken out.old) (K.taken out.new) (loop_trace
+    ensures stopped { OnErr result (AppendsPrefix (K.taken out.old) (K.taken out.new) (loop_trace
         (machine_with setup.now image.now (rows_of latched word_at ports.old.items))
-        (response_at (responses_of response plants.old.items)) every thread cycles)) }
+        (response_at (responses_of P.response plants.old.items)) every thread cycles)) }
     ensures failed { result ≡ Err LoopStop.PutFailed
-        → Rose (K.faults out.old) (K.faults out.new) }
+        → HasRisen (K.faults out.old) (K.faults out.new) }
     ensures counted { K.faults out.old ≤ K.faults out.new }
     ensures eight { vec_len ports.new ≡ 8 }
     ensures plants { vec_len plants.new ≡ 8 }

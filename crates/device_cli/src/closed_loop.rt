@@ -12,7 +12,7 @@ ghost use Rattle.std.specs.Prelude.{◌≡◌, vec_len};
 
 use crate::control_loop::ControlLoop;
 use crate::fixed::Fixed;
-use command_files::{Program, Status, Stop, load};
+use commands::{CommandStop, Program, Status, load};
 use fp_io::RealFiles;
 use fp_ports::{HeldPort, Ports, THREADS};
 use fp_setup::Name;
@@ -28,7 +28,7 @@ const PERIODS: u64 = 160;
 const SET_POINT: Fixed = Fixed(16 * 0x1_0000);
 
 /// The setup and its image.
-fn read_program(rt: HostRuntime) -> Result<Program, Stop> {
+fn read_program(rt: HostRuntime) -> Result<Program, CommandStop> {
     let name = Name::from_str(rt.alloc(), SETUP)?;
     load(rt.alloc(), &name, &mut RealFiles::new(rt))
 }
@@ -79,7 +79,7 @@ fn run(rt: HostRuntime, program: &Program) -> io::Result<()> {
 pub fn status(rt: HostRuntime) -> Status {
     let program = match read_program(rt) {
         Ok(program) => program,
-        Err(Stop::NoMemory) => return Status::NoMemory,
+        Err(CommandStop::NoMemory) => return Status::NoMemory,
         Err(_) => return Status::Read,
     };
     match run(rt, &program) {

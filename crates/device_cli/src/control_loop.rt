@@ -4,7 +4,7 @@ ghost use Rattle.std.specs.Prelude.{◌≡◌, ◌+◌, ◌≤◌, IfOk, OnOk, v
 ghost use Rattle.timer_unit.specs.Time.{most_cycles};
 
 use crate::plant::Plant;
-use command_files::Program;
+use commands::Program;
 use fp_ports::{Ports, feed_port, latch_of};
 use machine::Machine;
 use std::alloc::{AllocError, Global};

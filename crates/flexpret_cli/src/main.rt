@@ -20,8 +20,8 @@ const COMPLAINTS: [(Status, &str); 4] = [
 
 /// The line for standard error for a status, if there is one.
 fn complaint(status: u8) -> Option<&'static str> {
-    for (told, line) in COMPLAINTS {
-        if status == told.number() {
+    for (contents, line) in COMPLAINTS {
+        if status == contents.number() {
             return Some(line);
         }
     }

@@ -2,7 +2,7 @@
 use Rattle.std.proofs.Common.{◌≡◌, ℕ, List, Option, Result, Ok, Err, sym, subst, ◌∙◌}
 use Rattle.std.specs.Prelude.{OnOk, OnErr}
 use Rattle.std.specs.Io.KnownBytes.{Appends}
-use Rattle.fp_io.specs.Content.{AppendsFront}
+use Rattle.fp_io.specs.Content.{AppendsPrefix}
 use Rattle.fp_ports.specs.PluggedPorts.{Row}
 use Rattle.trace_print.specs.Text.{text}
 use Rattle.core_model.specs.World.{Start, events}
@@ -33,12 +33,12 @@ dump-ok r first rows m before after (Err e) passes puts = tt
 pub dump-err : {A E : Type 0} → (r : Ready) (first rows : List (Option Row)) (m : Machine)
     (before after : Option (List ℕ)) (put : Result A E) → Passes r first m rows →
     OnErr put
-    ((s : Start) (c n : ℕ) → Refines s c n m rows → AppendsFront before after (seen s c)) →
+    ((s : Start) (c n : ℕ) → Refines s c n m rows → AppendsPrefix before after (seen s c)) →
     OnErr put ((written : List ℕ) → Runs r first (λ s. seen s r.cycles) written →
-    AppendsFront before after written)
+    AppendsPrefix before after written)
 dump-err r first rows m before after (Ok x) passes puts = tt
 dump-err r first rows m before after (Err e) passes puts =
-    λ written runs. (let Adds : List ℕ → Type 0 = AppendsFront before after in subst Adds
+    λ written runs. (let Adds : List ℕ → Type 0 = AppendsPrefix before after in subst Adds
     (sym runs.text_is) (puts runs.start r.cycles r.cycles (passes runs.start runs.refines).refines))
 
 -- a run without output has done its cycles
@@ -79,10 +79,10 @@ pub trace-err : {A E : Type 0} → (r : Ready) (thread : ℕ) (first rows : List
     (m : Machine) (before after : Option (List ℕ)) (put : Result A E) → OnErr put ((s : Start) →
     Refines s 0 r.cycles r.machine first → Stopped s r.cycles thread first m rows before after) →
     OnErr put ((written : List ℕ) → Runs r first (λ s. text (events s thread r.cycles)) written →
-    AppendsFront before after written)
+    AppendsPrefix before after written)
 trace-err r thread first rows m before after (Ok x) run = tt
 trace-err r thread first rows m before after (Err e) run =
-    λ written runs. (let Adds : List ℕ → Type 0 = AppendsFront before after in
+    λ written runs. (let Adds : List ℕ → Type 0 = AppendsPrefix before after in
     subst Adds (sym runs.text_is) (run runs.start runs.refines).put)
 
 -- the lines of settings that a run writes
@@ -106,10 +106,11 @@ pub phases-err : {A E : Type 0} → (r : Ready) (first rows : List (Option Row))
     (m : Machine) (before after : Option (List ℕ)) (put : Result A E) →
     OnErr put ((s : Start) → StartsAs s r.setup → Refines s 0 r.cycles r.machine first →
     LogStopped s r.cycles first m rows before after) → OnErr put ((written : List ℕ) →
-    Runs r first (λ s. phases_text (phases s r.cycles)) written → AppendsFront before after written)
+    Runs r first (λ s. phases_text (phases s r.cycles)) written → AppendsPrefix before
+    after written)
 phases-err r first rows m before after (Ok x) logs = tt
 phases-err r first rows m before after (Err e) logs =
-    λ written runs. (let Adds : List ℕ → Type 0 = AppendsFront before after in
+    λ written runs. (let Adds : List ℕ → Type 0 = AppendsPrefix before after in
     subst Adds (sym runs.text_is) (logs runs.start runs.starts runs.refines).put)
 
 pub phases-left : {A E : Type 0} → (r : Ready) (first rows : List (Option Row))
@@ -159,9 +160,9 @@ put-ok (Ok x) before after bytes text same puts =
 put-ok (Err e) before after bytes text same puts = tt
 
 pub put-err : {A E : Type 0} → (put : Result A E) (before after : Option (List ℕ))
-    (bytes text : List ℕ) → bytes ≡ text → OnErr put (AppendsFront before after bytes) →
-    OnErr put ((written : List ℕ) → written ≡ text → AppendsFront before after written)
+    (bytes text : List ℕ) → bytes ≡ text → OnErr put (AppendsPrefix before after bytes) →
+    OnErr put ((written : List ℕ) → written ≡ text → AppendsPrefix before after written)
 put-err (Ok x) before after bytes text same puts = tt
 put-err (Err e) before after bytes text same puts =
     λ written is.
-    (let Adds : List ℕ → Type 0 = AppendsFront before after in subst Adds (same ∙ sym is) puts)
+    (let Adds : List ℕ → Type 0 = AppendsPrefix before after in subst Adds (same ∙ sym is) puts)

@@ -4,42 +4,44 @@ use Rattle.std.proofs.Common.{Some, None, inl, inr, refl, ap, sym, ◌∙◌, ar
 use Rattle.std.specs.Prelude.{IfSome}
 use Rattle.std.specs.Io.KnownBytes.{Appends}
 use Rattle.std.proofs.lemmas.Bool.Decides.{nat_tests}
-use Rattle.fp_io.specs.Content.{FileMap, AppendsFront, Request}
+use Rattle.fp_io.specs.Content.{FileMap, AppendsPrefix, Request}
 use Rattle.fp_ports.specs.PluggedPorts.{Row}
-use Rattle.ask_words.specs.declared.asked.Ask.{Ask}
-use Rattle.ask_words.specs.declared.asked.Ask.TheVariants as asks
-use Rattle.ask_words.specs.declared.asked.Ask.TheVariants.{Run, Dump, Asm, Selfrun}
-use Rattle.ask_words.specs.declared.asked.Ask.TheVariants.{Phases, Solo, Check, Elf, Calls}
+use Rattle.command_line.specs.declared.asked.Ask.{Ask}
+use Rattle.command_line.specs.declared.asked.Ask.TheVariants as asks
+use Rattle.command_line.specs.declared.asked.Ask.TheVariants.{Run, Dump, Asm, Selfrun}
+use Rattle.command_line.specs.declared.asked.Ask.TheVariants.{Phases, Solo, Check, Elf, Calls}
 use Rattle.flexpret_top.specs.Requests.{IsAskedBy}
 use Rattle.flexpret_top.specs.declared.ready.Prepared.{Prepared}
-use Rattle.command_files.specs.declared.status.Status.{Status}
-use Rattle.command_files.specs.declared.status.Status.TheVariants.{Ok, Differs, Usage, Setup}
-use Rattle.command_files.specs.declared.status.Status.TheVariants.{Image, Source, Bound, Read}
-use Rattle.command_files.specs.declared.status.Status.TheVariants.{Write, NoMemory, Routines}
-use Rattle.command_files.specs.Answer.Answer.{Says}
+use Rattle.commands.specs.declared.status.Status.{Status}
+use Rattle.commands.specs.declared.status.Status.TheVariants.{Ok, Differs, Usage, Setup}
+use Rattle.commands.specs.declared.status.Status.TheVariants.{Image, Source, Bound, Read}
+use Rattle.commands.specs.declared.status.Status.TheVariants.{Write, NoMemory, Routines}
+use Rattle.commands.specs.Answer.Answer.{Says}
 use Rattle.flexpret_top.specs.Command.{IsAnswerIn, Leaves}
 use Rattle.flexpret_top.specs.Command.{LeavesCutShort, LeavesUnrun, Said, Began, Answered}
-use Rattle.flexpret_top.specs.Prepared.{Delivers, LeavesPorts, LeavesPortsInPart, Prepares}
-use Rattle.command_files.specs.Status.{IsStatus, number_of}
+use Rattle.flexpret_top.specs.Prepared.{HasDelivered, LeavesPorts, LeavesPortsInPart, Prepares}
+use Rattle.commands.specs.Status.{IsStatus, number_of}
 
 -- after a failure of the sink a prefix of the answer was written
-pub front-of : (told : Option FileMap) (asked : Ask) (ports fed : List (Option Row)) (p : Prepared)
-    (before after : Option (List ℕ)) → IfSome told (λ files. Prepares asked files ports fed p) →
-    ((written : List ℕ) → Delivers p fed written → AppendsFront before after written) →
-    IfSome told (λ files. Began (IsAnswerIn asked ports files) before after)
-front-of None asked ports fed p before after prepares puts = tt
-front-of (Some files) asked ports fed p before after prepares puts =
+pub prefix-of : (contents : Option FileMap) (asked : Ask) (ports fed : List (Option Row))
+    (p : Prepared)
+    (before after : Option (List ℕ)) → IfSome contents (λ files. Prepares asked files ports fed p) →
+    ((written : List ℕ) → HasDelivered p fed written → AppendsPrefix before after written) →
+    IfSome contents (λ files. Began (IsAnswerIn asked ports files) before after)
+prefix-of None asked ports fed p before after prepares puts = tt
+prefix-of (Some files) asked ports fed p before after prepares puts =
     record {
       answer = Says 0 prepares.written;
       is = prepares.is;
-      front = puts prepares.written prepares.delivers;
+      prefix = puts prepares.written prepares.delivers;
     }
 
 -- otherwise the whole answer was written
-pub all-of : (told : Option FileMap) (asked : Ask) (ports fed : List (Option Row)) (p : Prepared)
-    (before after : Option (List ℕ)) → IfSome told (λ files. Prepares asked files ports fed p) →
-    ((written : List ℕ) → Delivers p fed written → Appends before after written) →
-    IfSome told (λ files. Said (IsAnswerIn asked ports files) 0 before after)
+pub all-of : (contents : Option FileMap) (asked : Ask) (ports fed : List (Option Row))
+    (p : Prepared)
+    (before after : Option (List ℕ)) → IfSome contents (λ files. Prepares asked files ports fed p) →
+    ((written : List ℕ) → HasDelivered p fed written → Appends before after written) →
+    IfSome contents (λ files. Said (IsAnswerIn asked ports files) 0 before after)
 all-of None asked ports fed p before after prepares puts = tt
 all-of (Some files) asked ports fed p before after prepares puts =
     record {
@@ -49,22 +51,22 @@ all-of (Some files) asked ports fed p before after prepares puts =
     }
 
 -- the ports after a complete answer
-pub left-of : (told : Option FileMap) (asked : Ask) (ports fed last : List (Option Row))
-    (p : Prepared) → IfSome told (λ files. Prepares asked files ports fed p) →
-    LeavesPorts p fed last → IfSome told (λ files. Leaves asked files ports last)
+pub left-of : (contents : Option FileMap) (asked : Ask) (ports fed last : List (Option Row))
+    (p : Prepared) → IfSome contents (λ files. Prepares asked files ports fed p) →
+    LeavesPorts p fed last → IfSome contents (λ files. Leaves asked files ports last)
 left-of None asked ports fed last p prepares left = tt
 left-of (Some files) asked ports fed last p prepares left = prepares.leaves last left
 
 -- the ports after a failure of the sink
-pub part-of : (told : Option FileMap) (asked : Ask)
+pub part-of : (contents : Option FileMap) (asked : Ask)
     (ports fed last : List (Option Row)) (p : Prepared) →
-    IfSome told (λ files. Prepares asked files ports fed p) → LeavesPortsInPart p fed last →
-    IfSome told (λ files. LeavesCutShort (Some asked) files ports last)
+    IfSome contents (λ files. Prepares asked files ports fed p) → LeavesPortsInPart p fed last →
+    IfSome contents (λ files. LeavesCutShort (Some asked) files ports last)
 part-of None asked ports fed last p prepares left = tt
 part-of (Some files) asked ports fed last p prepares left = inr (prepares.leaves_part last left)
 
-pub same-cut-short : (told : Option FileMap) (asked : Ask) (ports last : List (Option Row)) →
-    last ≡ ports → IfSome told (λ files. LeavesCutShort (Some asked) files ports last)
+pub same-cut-short : (contents : Option FileMap) (asked : Ask) (ports last : List (Option Row)) →
+    last ≡ ports → IfSome contents (λ files. LeavesCutShort (Some asked) files ports last)
 same-cut-short None asked ports last same = tt
 same-cut-short (Some files) asked ports last same = inl same
 
@@ -136,18 +138,18 @@ pub some-none : {A Q : Type 0} {x : A} → Some x ≡ None → Q
 some-none none = absurd (let no : ⊥ = cc in no)
 
 -- the prepared answer is an answer to the command
-pub answered-of : (told : Option FileMap) (asked : Ask) (ports fed : List (Option Row))
-    (p : Prepared) → IfSome told (λ files. Prepares asked files ports fed p) →
-    IfSome told (λ files. (◌≡◌ {A = ℕ} 0 9) ⊎ Answered (IsAnswerIn asked ports files) 0)
+pub answered-of : (contents : Option FileMap) (asked : Ask) (ports fed : List (Option Row))
+    (p : Prepared) → IfSome contents (λ files. Prepares asked files ports fed p) →
+    IfSome contents (λ files. (◌≡◌ {A = ℕ} 0 9) ⊎ Answered (IsAnswerIn asked ports files) 0)
 answered-of None asked ports fed p prepares = tt
 answered-of (Some files) asked ports fed p prepares =
     inr (record { answer = Says 0 prepares.written; is = prepares.is; answered = refl })
 
 -- memory ran out before a file was requested
-pub unasked : (o : Option Ask) (told : Option FileMap) (status : ℕ)
-    (before : Option (List Request)) → status ≡ 9 → IsAskedBy o told status before before
-unasked None told status before nine = refl
-unasked (Some asked) told status before nine = inl (nine, refl)
+pub unasked : (o : Option Ask) (contents : Option FileMap) (status : ℕ)
+    (before : Option (List Request)) → status ≡ 9 → IsAskedBy o contents status before before
+unasked None contents status before nine = refl
+unasked (Some asked) contents status before nine = inl (nine, refl)
 
 pub unrun-same : (o : Option Ask) (files : FileMap) (ports : List (Option Row)) →
     LeavesUnrun o files ports ports

@@ -6,9 +6,9 @@ use Rattle.std.specs.Prelude.{option_map}
 use Rattle.std.specs.Io.KnownBytes.{Appends}
 use Rattle.fp_io.specs.Content.{FileMap}
 use Rattle.fp_ports.specs.PluggedPorts.{Row}
-use Rattle.ask_words.specs.declared.asked.Ask.{Ask}
-use Rattle.ask_words.specs.declared.asked.Ask.TheVariants.{Run, Dump, Asm, Bound, Selfrun}
-use Rattle.ask_words.specs.declared.asked.Ask.TheVariants.{Phases, Solo, Check, Elf, Calls}
+use Rattle.command_line.specs.declared.asked.Ask.{Ask}
+use Rattle.command_line.specs.declared.asked.Ask.TheVariants.{Run, Dump, Asm, Bound, Selfrun}
+use Rattle.command_line.specs.declared.asked.Ask.TheVariants.{Phases, Solo, Check, Elf, Calls}
 use Rattle.call_bounds.specs.RoutinesFile.{routines_of}
 use Rattle.call_bounds.specs.declared.routines_refusals.RoutinesRefused.{RoutinesRefused}
 use Rattle.call_bounds.specs.declared.routines_refusals.RoutinesRefused.TheVariants as in_list
@@ -26,8 +26,8 @@ use Rattle.region_tree.specs.Tree.{Tree}
 use Rattle.region_tree.specs.declared.section.Section.{Section}
 use Rattle.region_tree.specs.declared.tree.TreeNo.{TreeNo}
 use Rattle.region_tree.specs.declared.tree.TreeNo.TheVariants as in_tree
-use Rattle.run_laws.specs.RetiredTraces.{RetiredTraceAlone, RetiredTraceByPhases}
-use Rattle.run_laws.specs.TraceLaws.{IsConfinedHard}
+use Rattle.isolation.specs.RetiredTraces.{RetiredTraceAlone, RetiredTraceByPhases}
+use Rattle.isolation.specs.TraceLaws.{IsConfinedHard}
 use Rattle.fp_setup.specs.AcceptedSetups.{AcceptedKeepRules}
 use Rattle.fp_setup.specs.Rules.{KeepsRules}
 use Rattle.fp_setup.specs.Settings.{Settings, size_of}
@@ -35,24 +35,26 @@ use Rattle.fp_setup.specs.Setup.{setup as setup_meant}
 use Rattle.fp_setup.specs.declared.refusal.Fault.{Fault}
 use Rattle.setup_model.specs.Start.{thread_setup_of}
 use Rattle.slot_scheduler.specs.ModeWord.{mode_of}
-use Rattle.section_visits.specs.SetupInSettings.{CallVisitsStayBoundedInSettings}
-use Rattle.section_visits.specs.SetupInSettings.{VisitsStayBoundedInSettings}
+use Rattle.visit_bounds.specs.SetupInSettings.{CallVisitsStayBoundedInSettings}
+use Rattle.visit_bounds.specs.SetupInSettings.{VisitsStayBoundedInSettings}
 use Rattle.trace_print.specs.declared.refusals.Refusal.TheVariants as refusal
-use Rattle.command_files.specs.BoundAnswer.{IsBoundAnswer, IsSectionAnswer}
-use Rattle.command_files.specs.BoundAnswer.{section_fault, section_tree}
-use Rattle.command_files.specs.CallsAnswer.{IsCallsAnswer, IsRoutinesAnswer, IsSectionCallsAnswer}
-use Rattle.command_files.specs.CallsAnswer.{of_routines, routines_in, section_listing}
-use Rattle.command_files.specs.Codes.{call_refusal, tree_refusal}
-use Rattle.command_files.specs.declared.program.Program.{Program}
-use Rattle.command_files.specs.Answer.{Answer, IsSaid, refusal_answer, then_by, over_file, ends}
+use Rattle.commands.specs.BoundAnswer.{IsBoundAnswer, IsSectionAnswer}
+use Rattle.commands.specs.BoundAnswer.{section_fault, section_tree}
+use Rattle.commands.specs.CallsAnswer.{IsCallsAnswer, IsRoutinesAnswer, IsSectionCallsAnswer}
+use Rattle.commands.specs.CallsAnswer.{of_routines, routines_in, section_listing}
+use Rattle.commands.specs.Codes.{call_refusal, tree_refusal}
+use Rattle.commands.specs.declared.codes.SectionNo.{SectionNo}
+use Rattle.commands.specs.declared.codes.SectionNo.TheVariants.{NotHard, NotConfined}
+use Rattle.commands.specs.declared.program.Program.{Program}
+use Rattle.commands.specs.Answer.{Answer, IsSaid, refusal_answer, then_by, over_file, ends}
 use Rattle.flexpret_top.specs.SoloAndCheck.{alone_fault, alone_in, alone_of}
 use Rattle.flexpret_top.specs.SoloAndCheck.{alone_text, unless_fault}
-use Rattle.command_files.specs.Elf.{elf_in, of_elf}
+use Rattle.commands.specs.Elf.{elf_in, of_elf}
 use Rattle.flexpret_top.specs.Command.{IsAnswerTo, Said}
 use Rattle.flexpret_top.specs.Headline.{BoundsCallVisits, BoundsVisits, IsImported}
 use Rattle.flexpret_top.specs.Headline.{IsLongest, IsLongestByCalls, WritesAsRun}
 use Rattle.flexpret_top.specs.Headline.{WritesImage, WritesIsolated, machine_of}
-use Rattle.command_files.specs.Program.{image_in, of_setup, program, setup_in, with_image}
+use Rattle.commands.specs.Program.{image_in, of_setup, program, setup_in, with_image}
 use Rattle.flexpret_top.specs.Run.{trace_of}
 
 -- a refusal isn't status 0
@@ -98,15 +100,16 @@ isolated-over law phased keep (Some (Run setup i n)) files ports before after sa
     λ p is. (
     let answers = ap (λ (q : Result Program Answer). ends (then_by q (trace_of ports i n))) is in
     let Tells : Answer → Type 0 = IsSaid 0 before after in
-    let told = subst Tells (said.is ∙ answers) said.said in
+    let contents = subst Tells (said.is ∙ answers) said.said in
     let Adds : List ℕ → Type 0 = Appends before after in
     record {
       by_view =
           λ hard quiet. subst Adds
-          (law (machine_of p ports) i n (program-keeps keep files setup p is) hard quiet) told.1;
+          (law (machine_of p ports) i n (program-keeps keep files setup p is) hard
+          quiet) contents.1;
       by_phases =
           λ confined kept. subst Adds (phased (machine_of p ports) i n
-          (program-keeps keep files setup p is) confined kept) told.1;
+          (program-keeps keep files setup p is) confined kept) contents.1;
     })
 isolated-over law phased keep (Some (Dump setup n)) files ports before after said = tt
 isolated-over law phased keep (Some (Asm source)) files ports before after said = tt
@@ -134,8 +137,8 @@ solo-said p i n ports before after said =
   where
     go : (hard : Bool) → (mode_of p.setup.modes i == 0) ≡ hard →
         (confined : Bool) → (thread_setup_of p.setup i).confined ≡ confined →
-        IsSaid 0 before after (ends (then_by (unless_fault p (if not hard then Some 1
-        else if not confined then Some 6 else None)) (alone_of ports i n))) →
+        IsSaid 0 before after (ends (then_by (unless_fault p (if not hard then Some NotHard
+        else if not confined then Some NotConfined else None)) (alone_of ports i n))) →
         IsSolo p i n ports before after
     go false is_hard confined is_confined refusal = absurd (no-zero 3 refusal.0 refl)
     go true is_hard false is_confined refusal = absurd (no-zero 3 refusal.0 refl)
@@ -232,7 +235,7 @@ tree-refused t (in_tree.UnboundedBackEdge a) x before after line said =
 tree-refused t in_tree.NoMemory x before after line said = cc
 
 section-longest : VisitsStayBoundedInSettings → (p : Program) (i : ℕ) (section : Section)
-    (before after : Option (List ℕ)) (fault : Option ℕ) (x : Answer) →
+    (before after : Option (List ℕ)) (fault : Option SectionNo) (x : Answer) →
     IsSectionAnswer p i section fault x → IsSaid 0 before after x →
     IsLongest p i section before after
 section-longest law p i section before after (Some code) x is said =
@@ -339,7 +342,7 @@ routines-longest law p i section file before after x is said =
     (routines_of (size_of p.setup.version) file) refl is said
 
 calls-longest : CallVisitsStayBoundedInSettings → (p : Program) (i : ℕ) (section : Section)
-    (file : List ℕ) (before after : Option (List ℕ)) (fault : Option ℕ) (x : Answer) →
+    (file : List ℕ) (before after : Option (List ℕ)) (fault : Option SectionNo) (x : Answer) →
     IsSectionCallsAnswer p i section (Some file) fault x → IsSaid 0 before after x →
     IsLongestByCalls p i section file before after
 calls-longest law p i section file before after (Some code) x is said =

@@ -7,9 +7,9 @@ use Rattle.fp_setup.specs.Rules.{KeepsRules}
 use Rattle.fp_setup.specs.Settings.{Settings, size_of}
 use Rattle.fp_setup.specs.Setup.{setup}
 use Rattle.fp_setup.specs.declared.refusal.Fault.{Fault}
-use Rattle.command_files.specs.Answer.{Answer, over_file, then_by}
-use Rattle.command_files.specs.Program.{image_in, of_setup, setup_in, with_image}
-use Rattle.command_files.specs.declared.program.Program.{Program}
+use Rattle.commands.specs.Answer.{Answer, over_file, then_by}
+use Rattle.commands.specs.Program.{image_in, of_setup, setup_in, with_image}
+use Rattle.commands.specs.declared.program.Program.{Program}
 use Rattle.flexpret_top.specs.ProgramRules.{ProgramsKeepRules}
 
 accepted : AcceptedKeepRules → (bytes : List ℕ) (s : Settings) → setup_in bytes ≡ Ok s →

@@ -32,16 +32,16 @@ use Rattle.solo_run.specs.FirstDifference.{IsChecked, first_differing_line, line
 use Rattle.solo_run.specs.declared.checked.Checked.{Checked}
 use Rattle.solo_run.specs.declared.checked.Checked.TheVariants.{Same, Differs}
 use Rattle.solo_run.specs.Setup.{setup_view}
-use Rattle.solo_run.proofs.Compare.{front}
+use Rattle.solo_run.proofs.Compare.{prefix}
 use Rattle.core_model.specs.Viewed.{view, setting_of}
 use Rattle.solo_run.specs.View.{abstract_view}
 use Rattle.solo_run.specs.declared.view.SoloView.{SoloView}
-use Rattle.command_files.specs.Answer.{Answer, differs_text, over_file}
+use Rattle.commands.specs.Answer.{Answer, differs_text, over_file}
 use Rattle.flexpret_top.specs.SoloAndCheck.{comparison_of, said_by, same_text}
-use Rattle.command_files.specs.declared.stop.Stop.{Stop}
-use Rattle.command_files.specs.declared.stop.Stop.TheVariants as in_stop
-use Rattle.command_files.specs.Stops.{IsStop, IsStopOf, is_difference}
-use Rattle.command_files.specs.Answer.Answer.{Says}
+use Rattle.commands.specs.declared.stop.CommandStop.{CommandStop}
+use Rattle.commands.specs.declared.stop.CommandStop.TheVariants as in_stop
+use Rattle.commands.specs.Stops.{IsStop, IsStopOf, is_difference}
+use Rattle.commands.specs.Answer.Answer.{Says}
 
 -- the thread at an index is the thread with that number
 thread-at : (i : ℕ) → i < 8 → get_or the_threads i 0 ≡ i
@@ -67,43 +67,43 @@ itself : (x : ℕ) → nat_eq x x ≡ true
 itself x = grind (arith, nat_tests)
 
 -- the common prefix is the same with more bytes, if it ends before them
-front-left : (e rest xs : List ℕ) → front e xs < length e → front (e ++ rest) xs ≡ front e xs
-front-left [] rest xs l = absurd (omega (arith, l))
-front-left (y ∷ e) rest [] l = refl
-front-left (y ∷ e) rest (x ∷ xs) l = go (nat_eq y x) (λ k. front-left e rest xs k) l
+prefix-left : (e rest xs : List ℕ) → prefix e xs < length e → prefix (e ++ rest) xs ≡ prefix e xs
+prefix-left [] rest xs l = absurd (omega (arith, l))
+prefix-left (y ∷ e) rest [] l = refl
+prefix-left (y ∷ e) rest (x ∷ xs) l = go (nat_eq y x) (λ k. prefix-left e rest xs k) l
   where
-    go : (b : Bool) → (front e xs < length e → front (e ++ rest) xs ≡ front e xs) →
-        cond b (1 + front e xs) 0 < length (y ∷ e) →
-        cond b (1 + front (e ++ rest) xs) 0 ≡ cond b (1 + front e xs) 0
-    go true on l = let less : front e xs < length e = omega arith in ap (λ n. 1 + n) (on less)
+    go : (b : Bool) → (prefix e xs < length e → prefix (e ++ rest) xs ≡ prefix e xs) →
+        cond b (1 + prefix e xs) 0 < length (y ∷ e) →
+        cond b (1 + prefix (e ++ rest) xs) 0 ≡ cond b (1 + prefix e xs) 0
+    go true on l = let less : prefix e xs < length e = omega arith in ap (λ n. 1 + n) (on less)
     go false on l = refl
 
-front-same : (xs : List ℕ) → front xs xs ≡ length xs
-front-same [] = refl
-front-same (x ∷ xs) = rw (itself x, front-same xs) (omega arith)
+prefix-same : (xs : List ℕ) → prefix xs xs ≡ length xs
+prefix-same [] = refl
+prefix-same (x ∷ xs) = rw (itself x, prefix-same xs) (omega arith)
 
 -- The answer over the first bytes is that over the file, if their common prefix with the text ends
 -- within them.
 checked-long : (file given text rest : List ℕ) (answer : Checked) → file ≡ given ++ rest →
-    front given text < length given → length given < length file → IsChecked given text answer →
+    prefix given text < length given → length given < length file → IsChecked given text answer →
     IsChecked file text answer
 checked-long file given text rest Same whole less longer is =
-    absurd (let all : front given text ≡ length given = ap (front given) (sym is)
-    ∙ front-same given in omega (arith, all, less))
+    absurd (let all : prefix given text ≡ length given = ap (prefix given) (sym is)
+    ∙ prefix-same given in omega (arith, all, less))
 checked-long file given text rest (Differs line) whole less longer is =
-    let at : front file text ≡ front given text =
-    ap (λ xs. front xs text) whole ∙ front-left given rest text less in
-    let within : front given text ≤ length given = omega (arith, less) in
-    let same : take (front file text) file ≡ take (front given text) given =
-    ap (λ n. take n file) at ∙ ap (take (front given text)) whole
-    ∙ take-append-le (front given text) given rest within in (
-      λ equal. (let all : front file text ≡ length file = ap (front file) (sym equal)
-          ∙ front-same file in absurd (omega (arith, all, at, less, longer))),
+    let at : prefix file text ≡ prefix given text =
+    ap (λ xs. prefix xs text) whole ∙ prefix-left given rest text less in
+    let within : prefix given text ≤ length given = omega (arith, less) in
+    let same : take (prefix file text) file ≡ take (prefix given text) given =
+    ap (λ n. take n file) at ∙ ap (take (prefix given text)) whole
+    ∙ take-append-le (prefix given text) given rest within in (
+      λ equal. (let all : prefix file text ≡ length file = ap (prefix file) (sym equal)
+          ∙ prefix-same file in absurd (omega (arith, all, at, less, longer))),
       is.1 ∙ ap (λ bytes. 1 + line_feeds bytes) (sym same),
     )
 
 pub checked-file : (file given text : List ℕ) (n : ℕ) (answer : Checked) →
-    given ≡ take (60 * n + 1) file → front given text ≤ 59 * n → IsChecked given text answer →
+    given ≡ take (60 * n + 1) file → prefix given text ≤ 59 * n → IsChecked given text answer →
     IsChecked file text answer
 checked-file file given text n answer cut few is =
     elim (cases_lt (60 * n + 1) (length file)) [
@@ -142,10 +142,10 @@ compared-is file text (Differs line) is =
     (ap (λ (l : ℕ). Err (Says 1 (differs_text l))) (sym is.1))
 
 -- the same over the file of the fetched bytes
-pub compared-file : (told : Option FileMap) (name bytes items text : List ℕ) (n most : ℕ)
-    (answer : Checked) → most ≡ 60 * n → Fetched told name most items → bytes ≡ items →
-    front bytes text ≤ 59 * n → IsChecked bytes text answer →
-    IfSome told (λ files. over_file (comparison_of text) (files name) ≡ said_by answer)
+pub compared-file : (contents : Option FileMap) (name bytes items text : List ℕ) (n most : ℕ)
+    (answer : Checked) → most ≡ 60 * n → Fetched contents name most items → bytes ≡ items →
+    prefix bytes text ≤ 59 * n → IsChecked bytes text answer →
+    IfSome contents (λ files. over_file (comparison_of text) (files name) ≡ said_by answer)
 compared-file None name bytes items text n most answer limit fetched same few is = tt
 compared-file (Some files) name bytes items text n most answer limit fetched same few is =
     found (files name) fetched
@@ -158,32 +158,33 @@ compared-file (Some files) name bytes items text n most answer limit fetched sam
         (same ∙ there ∙ ap (λ m. take (m + 1) whole) limit) few is)
 
 -- so the command answers `same` if the comparison finds no difference
-pub compared-ok : (told : Option FileMap) (name text : List ℕ)
-    (answer : Checked) (r : Result Unit Stop) →
-    IfSome told (λ files. over_file (comparison_of text) (files name) ≡ said_by answer) →
+pub compared-ok : (contents : Option FileMap) (name text : List ℕ)
+    (answer : Checked) (r : Result Unit CommandStop) →
+    IfSome contents (λ files. over_file (comparison_of text) (files name) ≡ said_by answer) →
     OnOk r (said_by answer ≡ Ok same_text) →
-    OnOk r (IfSome told (λ files. over_file (comparison_of text) (files name) ≡ Ok same_text))
-compared-ok told name text answer (Ok done) is same = over told is
+    OnOk r (IfSome contents (λ files. over_file (comparison_of text) (files name) ≡ Ok same_text))
+compared-ok contents name text answer (Ok done) is same = over contents is
   where
-    over : (told : Option FileMap) →
-        IfSome told (λ files. over_file (comparison_of text) (files name) ≡ said_by answer) →
-        IfSome told (λ files. over_file (comparison_of text) (files name) ≡ Ok same_text)
+    over : (contents : Option FileMap) →
+        IfSome contents (λ files. over_file (comparison_of text) (files name) ≡ said_by answer) →
+        IfSome contents (λ files. over_file (comparison_of text) (files name) ≡ Ok same_text)
     over None is = tt
     over (Some files) is = is ∙ same
-compared-ok told name text answer (Err stop) is same = tt
+compared-ok contents name text answer (Err stop) is same = tt
 
-pub compared-stop : (told : Option FileMap) (name text : List ℕ)
-    (answer : Checked) (before after : ℕ) (r : Result Unit Stop) →
-    IfSome told (λ files. over_file (comparison_of text) (files name) ≡ said_by answer) →
+pub compared-stop : (contents : Option FileMap) (name text : List ℕ)
+    (answer : Checked) (before after : ℕ) (r : Result Unit CommandStop) →
+    IfSome contents (λ files. over_file (comparison_of text) (files name) ≡ said_by answer) →
     IfErr r (IsStopOf (said_by answer)) → IfErr r
-    (IsStop told (λ files x. over_file (comparison_of text) (files name) ≡ Err x) before after)
-compared-stop told name text answer before after (Ok done) is stops = tt
-compared-stop told name text answer before after (Err stop) is stops = over told stop is stops
+    (IsStop contents (λ files x. over_file (comparison_of text) (files name) ≡ Err x) before after)
+compared-stop contents name text answer before after (Ok done) is stops = tt
+compared-stop contents name text answer before after (Err stop) is stops =
+    over contents stop is stops
   where
-    over : (told : Option FileMap) (stop : Stop) →
-        IfSome told (λ files. over_file (comparison_of text) (files name) ≡ said_by answer) →
+    over : (contents : Option FileMap) (stop : CommandStop) →
+        IfSome contents (λ files. over_file (comparison_of text) (files name) ≡ said_by answer) →
         IsStopOf (said_by answer) stop →
-        IsStop told
+        IsStop contents
         (λ files x. over_file (comparison_of text) (files name) ≡ Err x) before after stop
     over None (in_stop.Refused refusal) is stops = tt
     over None (in_stop.Differs line) is stops = tt
@@ -195,7 +196,7 @@ compared-stop told name text answer before after (Err stop) is stops = over told
     over (Some files) in_stop.NoMemory is stops = tt
 
 -- a comparison that finds a difference ends with that difference
-pub difference-kept : (r : Result Unit Stop) (Kept : Type 0) →
+pub difference-kept : (r : Result Unit CommandStop) (Kept : Type 0) →
     IfErr r (λ stop. is_difference stop ≡ true) →
     IfErr r (λ stop. is_difference stop ≡ false → Kept)
 difference-kept (Ok done) Kept is = tt

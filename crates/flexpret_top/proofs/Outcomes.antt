@@ -3,16 +3,16 @@ use Rattle.std.proofs.Common.{◌≡◌, ◌≢◌, ◌⊎◌, ℕ, [], Option, 
 use Rattle.std.proofs.Common.{inl, inr, refl, sym, subst, arith}
 use Rattle.std.specs.Prelude.{IfSome}
 use Rattle.fp_elf.specs.Law.{ReadsBack}
-use Rattle.fp_io.proofs.Fronts.{appends_nothing}
-use Rattle.fp_io.specs.Causes.{Rose}
+use Rattle.fp_io.proofs.Prefixes.{appends_nothing}
+use Rattle.fp_io.specs.Causes.{HasRisen}
 use Rattle.fp_io.specs.Content.{FileMap}
 use Rattle.fp_setup.specs.AcceptedSetups.{AcceptedKeepRules}
-use Rattle.ask_words.specs.declared.asked.Ask.{Ask}
-use Rattle.run_laws.specs.RetiredTraces.{RetiredTraceAlone, RetiredTraceByPhases}
-use Rattle.section_visits.specs.SetupInSettings.{CallVisitsStayBoundedInSettings}
-use Rattle.section_visits.specs.SetupInSettings.{VisitsStayBoundedInSettings}
-use Rattle.command_files.specs.Answer.Answer.{Says}
-use Rattle.command_files.specs.declared.status.Status.TheVariants.{NoMemory, Usage}
+use Rattle.command_line.specs.declared.asked.Ask.{Ask}
+use Rattle.isolation.specs.RetiredTraces.{RetiredTraceAlone, RetiredTraceByPhases}
+use Rattle.visit_bounds.specs.SetupInSettings.{CallVisitsStayBoundedInSettings}
+use Rattle.visit_bounds.specs.SetupInSettings.{VisitsStayBoundedInSettings}
+use Rattle.commands.specs.Answer.Answer.{Says}
+use Rattle.commands.specs.declared.status.Status.TheVariants.{NoMemory, Usage}
 use Rattle.flexpret_top.specs.Command.{Answered, Began, IsAnswerTo, Said}
 use Rattle.flexpret_top.specs.Command.{LeavesBy, LeavesCutShort, LeavesUnrun}
 use Rattle.flexpret_top.specs.Outcome.{KnownOutcome, Outcome, State}
@@ -38,22 +38,24 @@ zero-said status zero said =
     (λ e. unequal 0 9 (let is : 0 ≡ 9 = rw zero at e in is) refl)
 
 -- the outcome for known files
-pub known-of : {F K P : Type 0} (t : Theorems) (told : Option FileMap) (asked : Option Ask)
+pub known-of : {F K P : Type 0} (t : Theorems) (contents : Option FileMap) (asked : Option Ask)
     (before after : State F K P) (status : ℕ) →
-    (status ≢ 7 → status ≢ 8 → status ≢ 9 → IfSome told (λ files.
+    (status ≢ 7 → status ≢ 8 → status ≢ 9 → IfSome contents (λ files.
     Said (IsAnswerTo asked files before.rows) status before.written after.written)) →
-    (status ≡ 8 → IfSome told (λ files.
+    (status ≡ 8 → IfSome contents (λ files.
     Began (IsAnswerTo asked files before.rows) before.written after.written)) →
-    (¬ Rose before.read_faults after.read_faults → ¬ Rose before.write_faults after.write_faults →
-    IfSome told (λ files. (status ≡ 9) ⊎ Answered (IsAnswerTo asked files before.rows) status)) →
-    (status ≡ 0 → IfSome told (λ files. LeavesBy asked files before.rows after.rows)) →
-    (status ≡ 8 → IfSome told (λ files. LeavesCutShort asked files before.rows after.rows)) →
-    (status ≡ 9 → IfSome told (λ files. LeavesUnrun asked files before.rows after.rows)) →
-    IfSome told (λ files. KnownOutcome files asked before after status)
-known-of t None asked before after status said front complete ports part unrun = tt
-known-of t (Some files) asked before after status said front complete ports part unrun = record {
+    (¬ HasRisen before.read_faults after.read_faults → ¬ HasRisen before.write_faults
+    after.write_faults →
+    IfSome contents (λ files. (status ≡ 9) ⊎ Answered (IsAnswerTo asked files before.rows) status))
+    →
+    (status ≡ 0 → IfSome contents (λ files. LeavesBy asked files before.rows after.rows)) →
+    (status ≡ 8 → IfSome contents (λ files. LeavesCutShort asked files before.rows after.rows)) →
+    (status ≡ 9 → IfSome contents (λ files. LeavesUnrun asked files before.rows after.rows)) →
+    IfSome contents (λ files. KnownOutcome files asked before after status)
+known-of t None asked before after status said prefix complete ports part unrun = tt
+known-of t (Some files) asked before after status said prefix complete ports part unrun = record {
   said = said;
-  front = front;
+  prefix = prefix;
   complete = complete;
   isolated =
       λ zero. isolated-over t.by_view t.by_phases t.rules asked files before.rows
@@ -92,14 +94,14 @@ outcome-of looks asked command before after status number is same outcome =
     subst At (sym same) (subst Of (sym is) outcome)
 
 -- the outcome of a usage error
-usage-known : {F K P : Type 0} (told : Option FileMap) (s : State F K P) →
-    IfSome told (λ files. KnownOutcome files None s s 2)
+usage-known : {F K P : Type 0} (contents : Option FileMap) (s : State F K P) →
+    IfSome contents (λ files. KnownOutcome files None s s 2)
 usage-known None s = tt
 usage-known (Some files) s = record {
   said =
       λ seven eight nine.
       record { answer = Says 2 []; is = refl; said = (refl, appends_nothing s.written) };
-  front = λ eight. unequal 2 8 eight refl;
+  prefix = λ eight. unequal 2 8 eight refl;
   complete =
       λ no_read_fault no_write_fault.
       inr (record { answer = Says 2 []; is = refl; answered = refl });
@@ -120,7 +122,7 @@ usage-at looks s = record {
   asks = λ none. inl refl;
   untouched = λ none. refl;
   requests = refl;
-  told = refl;
+  contents = refl;
   read = λ seven. unequal 2 7 seven refl;
   missing = λ lacks. absurd lacks;
   write = λ eight. unequal 2 8 eight refl;
@@ -142,12 +144,12 @@ usage-outcome looks asked s status none two =
     subst At (sym two) (subst Of (sym none) (usage-at looks s))
 
 -- the outcome if memory ran out for the arguments
-memory-known : {F K P : Type 0} (told : Option FileMap) (asked : Option Ask) (s : State F K P) →
-    IfSome told (λ files. KnownOutcome files asked s s 9)
+memory-known : {F K P : Type 0} (contents : Option FileMap) (asked : Option Ask) (s : State F K P) →
+    IfSome contents (λ files. KnownOutcome files asked s s 9)
 memory-known None asked s = tt
 memory-known (Some files) asked s = record {
   said = λ seven eight nine. absurd (nine refl);
-  front = λ eight. unequal 9 8 eight refl;
+  prefix = λ eight. unequal 9 8 eight refl;
   complete = λ no_read_fault no_write_fault. inl refl;
   isolated = λ zero. unequal 9 0 zero refl;
   as_run = λ zero. unequal 9 0 zero refl;
@@ -167,7 +169,7 @@ memory-at looks asked s = record {
   asks = λ none. inr refl;
   untouched = λ none. refl;
   requests = unasked asked s.contents 9 s.requests refl;
-  told = refl;
+  contents = refl;
   read = λ seven. unequal 9 7 seven refl;
   missing = λ lacks. inr (refl, refl);
   write = λ eight. unequal 9 8 eight refl;

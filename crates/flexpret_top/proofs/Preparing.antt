@@ -8,10 +8,10 @@ use Rattle.flexpret_top.specs.Command as command
 use Rattle.fp_io.specs.Content.{FileMap}
 use Rattle.fp_ports.specs.PluggedPorts.{Row, row_of, rows_of}
 use Rattle.std.proofs.lemmas.List.{length-map}
-use Rattle.ask_words.specs.declared.asked.Ask.TheVariants.{Run, Dump, Phases}
-use Rattle.machine.specs.Feeding.{IsFedFront, fed_all}
+use Rattle.command_line.specs.declared.asked.Ask.TheVariants.{Run, Dump, Phases}
+use Rattle.machine.specs.Feeding.{IsFedPrefix, fed_all}
 use Rattle.machine.proofs.FedLemmas.{feeds}
-use Rattle.machine.specs.WorldRelation.{Refines, PortsAfter, start_beside}
+use Rattle.machine.specs.WorldRelation.{Refines, PortsAfter, start_with_ports}
 use Rattle.machine.specs.DumpedState.{seen}
 use Rattle.fp_setup.specs.Settings.{Settings}
 use Rattle.phase_log.specs.LoggedRuns.{StartsAs}
@@ -20,12 +20,12 @@ use Rattle.core_model.specs.Phases.{phases}
 use Rattle.setup_model.specs.Start.{start}
 use Rattle.trace_print.specs.Text.{text}
 use Rattle.core_model.specs.World.{Start, events}
-use Rattle.command_files.specs.declared.program.Program.{Program}
+use Rattle.commands.specs.declared.program.Program.{Program}
 use Rattle.flexpret_top.specs.declared.ready.Ready.{Ready}
 use Rattle.flexpret_top.specs.declared.ready.Prepared.TheVariants as prepared
-use Rattle.command_files.specs.Answer.{Answer, then_by, ends}
+use Rattle.commands.specs.Answer.{Answer, then_by, ends}
 use Rattle.flexpret_top.specs.Prepared.{IsReady, LeavesPartOfRun, LeavesRun, Prepares, Runs}
-use Rattle.command_files.specs.Program.{program}
+use Rattle.commands.specs.Program.{program}
 use Rattle.flexpret_top.specs.Run.{start_of, trace_of, dump_of, phases_of}
 
 -- the world of a program starts with the slots and modes of its setup
@@ -35,18 +35,18 @@ unfolding start
 starts-as p ports n s is =
     record { slots = ap (λ (s : Settings). s.slots) is; modes = ap (λ (s : Settings). s.modes) is }
 
-pub ready-is : (told : Option FileMap) (name : List ℕ)
+pub ready-is : (contents : Option FileMap) (name : List ℕ)
     (before after : List (Option Row)) (p : Program) (r : Ready) →
-    IfSome told (λ files. program files name ≡ Ok p) → after ≡ fed_all p.setup before →
+    IfSome contents (λ files. program files name ≡ Ok p) → after ≡ fed_all p.setup before →
     p.setup ≡ r.setup → length before ≡ 8 → length after ≡ 8 → r.cycles ≤ most_cycles →
     ((ports : List (Option Row)) (n : ℕ) → length ports ≡ 8 →
-    Refines (start_beside p.setup p.image ports n) 0 n r.machine ports) →
-    IfSome told (λ files. IsReady files name before after r)
+    Refines (start_with_ports p.setup p.image ports n) 0 n r.machine ports) →
+    IfSome contents (λ files. IsReady files name before after r)
 ready-is None name before after p r is fed same eight eight' few refines = tt
 ready-is (Some files) name before after p r is fed setup eight eight' few refines =
     let RefinesAt : Start → Type 0 = λ s. Refines s 0 r.cycles r.machine after in
-    let same : start_beside p.setup p.image after r.cycles ≡ start_of p before r.cycles =
-    ap (λ ports. start_beside p.setup p.image ports r.cycles) fed
+    let same : start_with_ports p.setup p.image after r.cycles ≡ start_of p before r.cycles =
+    ap (λ ports. start_with_ports p.setup p.image ports r.cycles) fed
     ∙ feeds p.setup p.image before r.cycles eight (omega arith) in
     record {
       made = p;
@@ -87,19 +87,19 @@ ready-leaves-part files name before after last r ready leaves =
 
 -- a text of the program's world
 ready-runs : (files : FileMap) (name : List ℕ) (before after : List (Option Row))
-    (r : Ready) (told : Start → List ℕ) → (ready : IsReady files name before after r) →
-    Runs r after told (told (start_of ready.made before r.cycles))
-ready-runs files name before after r told ready = record {
+    (r : Ready) (contents : Start → List ℕ) → (ready : IsReady files name before after r) →
+    Runs r after contents (contents (start_of ready.made before r.cycles))
+ready-runs files name before after r contents ready = record {
   start = start_of ready.made before r.cycles;
   refines = ready.refines;
   starts = ready.starts;
   text_is = refl;
 }
 
-pub trace-prepares : (told : Option FileMap) (name : List ℕ) (i n : ℕ)
+pub trace-prepares : (contents : Option FileMap) (name : List ℕ) (i n : ℕ)
     (before after : List (Option Row)) (r : Ready) → r.cycles ≡ n →
-    IfSome told (λ files. IsReady files name before after r) →
-    IfSome told (λ files. Prepares (Run name i n) files before after (prepared.Trace r i))
+    IfSome contents (λ files. IsReady files name before after r) →
+    IfSome contents (λ files. Prepares (Run name i n) files before after (prepared.Trace r i))
 trace-prepares None name i n before after r same ready = tt
 trace-prepares (Some files) name i n before after r same ready =
     let Answers : ℕ → Type 0 =
@@ -114,10 +114,10 @@ trace-prepares (Some files) name i n before after r same ready =
       leaves_part = λ last. ready-leaves-part files name before after last r ready;
     })
 
-pub dump-prepares : (told : Option FileMap) (name : List ℕ) (n : ℕ)
+pub dump-prepares : (contents : Option FileMap) (name : List ℕ) (n : ℕ)
     (before after : List (Option Row)) (r : Ready) → r.cycles ≡ n →
-    IfSome told (λ files. IsReady files name before after r) →
-    IfSome told (λ files. Prepares (Dump name n) files before after (prepared.Dump r))
+    IfSome contents (λ files. IsReady files name before after r) →
+    IfSome contents (λ files. Prepares (Dump name n) files before after (prepared.Dump r))
 dump-prepares None name n before after r same ready = tt
 dump-prepares (Some files) name n before after r same ready =
     let Answers : ℕ → Type 0 = λ n. Prepares (Dump name n) files before after (prepared.Dump r) in
@@ -131,10 +131,10 @@ dump-prepares (Some files) name n before after r same ready =
       leaves_part = λ last. ready-leaves files name before after last r ready;
     })
 
-pub phases-prepares : (told : Option FileMap) (name : List ℕ) (n : ℕ)
+pub phases-prepares : (contents : Option FileMap) (name : List ℕ) (n : ℕ)
     (before after : List (Option Row)) (r : Ready) → r.cycles ≡ n →
-    IfSome told (λ files. IsReady files name before after r) →
-    IfSome told (λ files. Prepares (Phases name n) files before after (prepared.Phases r))
+    IfSome contents (λ files. IsReady files name before after r) →
+    IfSome contents (λ files. Prepares (Phases name n) files before after (prepared.Phases r))
 phases-prepares None name n before after r same ready = tt
 phases-prepares (Some files) name n before after r same ready =
     let Answers : ℕ → Type 0 =
@@ -149,28 +149,29 @@ phases-prepares (Some files) name n before after r same ready =
       leaves_part = λ last. ready-leaves-part files name before after last r ready;
     })
 
-pub ready-beside : {B : Type 0} → (latched : B → ℕ) (word_at : B → ℕ → ℕ) (told : Option FileMap)
+pub ready-beside : {B : Type 0} → (latched : B → ℕ) (word_at : B → ℕ →
+    ℕ) (contents : Option FileMap)
     (name : List ℕ) (before after : List (Option B)) (p : Program) (r : Ready) →
-    IfSome told (λ files. program files name ≡ Ok p) →
+    IfSome contents (λ files. program files name ≡ Ok p) →
     rows_of latched word_at after ≡ fed_all p.setup (rows_of latched word_at before) →
     p.setup ≡ r.setup → length before ≡ 8 → length after ≡ 8 → r.cycles ≤ most_cycles →
     ((ports : List (Option Row)) (n : ℕ) → length ports ≡ 8 →
-    Refines (start_beside p.setup p.image ports n) 0 n r.machine ports) →
-    IfSome told
+    Refines (start_with_ports p.setup p.image ports n) 0 n r.machine ports) →
+    IfSome contents
     (λ files. IsReady files name (rows_of latched word_at before) (rows_of latched word_at after) r)
-ready-beside latched word_at told name before after p r is fed same eight eight' few refines =
-    ready-is told name (rows_of latched word_at before) (rows_of latched word_at after)
+ready-beside latched word_at contents name before after p r is fed same eight eight' few refines =
+    ready-is contents name (rows_of latched word_at before) (rows_of latched word_at after)
     p r is fed same (length-map before (row_of latched word_at) ∙ eight)
     (length-map after (row_of latched word_at) ∙ eight') few refines
 
 -- without a run, the ports have some of the inputs of the setup
-pub fed-part : (told : Option FileMap) (name : List ℕ) (before after : List (Option Row))
-    (p : Program) → IfSome told (λ files. program files name ≡ Ok p) →
-    IsFedFront p.setup before after → IfSome told (λ files. IsUnrun files name before after)
+pub fed-part : (contents : Option FileMap) (name : List ℕ) (before after : List (Option Row))
+    (p : Program) → IfSome contents (λ files. program files name ≡ Ok p) →
+    IsFedPrefix p.setup before after → IfSome contents (λ files. IsUnrun files name before after)
 fed-part None name before after p is fed = tt
 fed-part (Some files) name before after p is fed = inr (record { made = p; is = is; fed = fed })
 
-pub same-fed : (told : Option FileMap) (name : List ℕ) (before after : List (Option Row)) →
-    after ≡ before → IfSome told (λ files. IsUnrun files name before after)
+pub same-fed : (contents : Option FileMap) (name : List ℕ) (before after : List (Option Row)) →
+    after ≡ before → IfSome contents (λ files. IsUnrun files name before after)
 same-fed None name before after same = tt
 same-fed (Some files) name before after same = inl same

@@ -2,12 +2,12 @@
 use Rattle.std.proofs.Common.{◌+◌, ◌-◌, ◌<◌, ◌≤◌, ◌++◌, arith}
 use Rattle.call_bounds.specs.Listing.{calls}
 use Rattle.core_model.specs.Phases.{leaves_regions}
-use Rattle.run_laws.proofs.Induction.{all_earlier, quiet_earlier}
-use Rattle.section_visits.specs.Premises.{AlikeHasSameWords, AlikeHasSameWordsOfParts}
-use Rattle.section_visits.specs.Premises.{IssuesAreEarlier, PhaseIsSet, QuietKeepsScheduling}
-use Rattle.section_visits.specs.Premises.{SetupIsSet}
+use Rattle.isolation.proofs.Induction.{all_earlier, quiet_earlier}
+use Rattle.visit_bounds.specs.Premises.{AlikeHasSameWords, AlikeHasSameWordsOfFunctions}
+use Rattle.visit_bounds.specs.Premises.{IssuesAreEarlier, PhaseIsSet, QuietKeepsScheduling}
+use Rattle.visit_bounds.specs.Premises.{SetupIsSet}
 use Rattle.setup_model.specs.Start.{start}
-use Rattle.command_files.specs.CallsAnswer.{section_listing}
+use Rattle.commands.specs.CallsAnswer.{section_listing}
 use Rattle.flexpret_top.specs.Corollaries.{LongestByCallsByPhases, LongestByPhases}
 use Rattle.flexpret_top.specs.Corollaries.{LongestByCallsWhileQuiet, LongestWhileQuiet}
 use Rattle.flexpret_top.specs.Corollaries.{LongestByCallsWhileScheduled}
@@ -57,7 +57,7 @@ while-quiet kept same law p i section before after h m n rules alike quiet =
     (same p.setup p.image section m i p.setup.slots h.accepted alike)
     (kept (start m.setup m.image m.ports n) n quiet)
 
-pub calls-while-quiet : QuietKeepsScheduling → AlikeHasSameWordsOfParts →
+pub calls-while-quiet : QuietKeepsScheduling → AlikeHasSameWordsOfFunctions →
     LongestByCallsWhileScheduled → LongestByCallsWhileQuiet
 calls-while-quiet kept same law p i section file before after h m n rules alike quiet =
     law p i section file before after h m n rules

@@ -3,24 +3,24 @@ use Rattle.std.proofs.Common.{◌≡◌, ◌⊎◌, ℕ, ◌<◌, ◌≤◌, fal
 use Rattle.std.proofs.Common.{Some, None, inl, inr, refl, ap, subst, arith}
 use Rattle.flexpret_top.proofs.Ending.{status-of}
 use Rattle.std.specs.Prelude.{IfSome, IsSomeAnd}
-use Rattle.fp_io.specs.Causes.{Rose}
+use Rattle.fp_io.specs.Causes.{HasRisen}
 use Rattle.fp_io.specs.Content.{FileMap}
 use Rattle.fp_ports.specs.PluggedPorts.{Row}
-use Rattle.ask_words.specs.declared.asked.Ask.{Ask}
+use Rattle.command_line.specs.declared.asked.Ask.{Ask}
 use Rattle.trace_print.specs.declared.refusals.Refusal.{Refusal}
 use Rattle.trace_print.specs.declared.refusals.Refusal.TheVariants.{Setup, Section, Image}
 use Rattle.trace_print.specs.declared.refusals.Refusal.TheVariants.{Source, Bound, Routines}
-use Rattle.command_files.specs.declared.status.Status.{Status}
-use Rattle.command_files.specs.declared.status.Status.TheVariants.{Ok, Differs, Usage}
-use Rattle.command_files.specs.declared.status.Status.TheVariants.{Read, Write, NoMemory}
-use Rattle.command_files.specs.declared.stop.Stop.{Stop}
-use Rattle.command_files.specs.declared.stop.Stop.TheVariants as why
-use Rattle.command_files.specs.Answer.{differs_text, refusal_answer, status_of}
-use Rattle.command_files.specs.Answer.Answer.{Says, Missing}
+use Rattle.commands.specs.declared.status.Status.{Status}
+use Rattle.commands.specs.declared.status.Status.TheVariants.{Ok, Differs, Usage}
+use Rattle.commands.specs.declared.status.Status.TheVariants.{Read, Write, NoMemory}
+use Rattle.commands.specs.declared.stop.CommandStop.{CommandStop}
+use Rattle.commands.specs.declared.stop.CommandStop.TheVariants as why
+use Rattle.commands.specs.Answer.{differs_text, refusal_answer, status_of}
+use Rattle.commands.specs.Answer.Answer.{Says, Missing}
 use Rattle.flexpret_top.specs.Command.{IsAnswerIn, Leaves, Said, Began, Answered}
-use Rattle.command_files.specs.Status.{number_of}
-use Rattle.command_files.specs.Stops.{IsStop, is_difference}
-use Rattle.flexpret_top.specs.Endings.{Ends}
+use Rattle.commands.specs.Status.{number_of}
+use Rattle.commands.specs.Stops.{IsStop, is_difference}
+use Rattle.flexpret_top.specs.Endings.{HasEnded}
 
 -- a refusal's status is one of 3 to 6, or 10
 refusal_number : (refusal : Refusal) (n : ℕ) → n ≡ status_of refusal →
@@ -42,11 +42,11 @@ no_refusal refusal s other is same more less =
     ]
 
 -- the status and output of such a command
-pub stop-said : (told : Option FileMap) (asked : Ask) (ports : List (Option Row))
-    (b a : ℕ) (stop : Stop) (s : Status) (b' a' : ℕ) (before after : Option (List ℕ)) →
-    IsStop told (IsAnswerIn asked ports) b a stop → Ends stop b' a' before after s →
+pub stop-said : (contents : Option FileMap) (asked : Ask) (ports : List (Option Row))
+    (b a : ℕ) (stop : CommandStop) (s : Status) (b' a' : ℕ) (before after : Option (List ℕ)) →
+    IsStop contents (IsAnswerIn asked ports) b a stop → HasEnded stop b' a' before after s →
     (s ≡ Read → ⊥) → (s ≡ Write → ⊥) → (s ≡ NoMemory → ⊥) →
-    IfSome told (λ files. Said (IsAnswerIn asked ports files) (number_of s) before after)
+    IfSome contents (λ files. Said (IsAnswerIn asked ports files) (number_of s) before after)
 stop-said None asked ports b a stop s b' a' before after is ends read write memory = tt
 stop-said (Some files) asked ports b a
     (why.Refused refusal) s b' a' before after is (inl puts) read write memory =
@@ -64,30 +64,31 @@ stop-said (Some files) asked ports b a why.NoMemory s b' a' before after is ends
     absurd (memory ends)
 
 -- a command that stops because a file can't be read ends with the status Read
-pub stop-missing : (stop : Stop) (s : Status) (b a : ℕ) (before after : Option (List ℕ)) →
-    Ends stop b a before after s → stop ≡ why.Read → s ≡ Read
+pub stop-missing : (stop : CommandStop) (s : Status) (b a : ℕ) (before after : Option (List ℕ)) →
+    HasEnded stop b a before after s → stop ≡ why.Read → s ≡ Read
 stop-missing stop s b a before after ends read =
-    let By : Stop → Type 0 = λ r. Ends r b a before after s in
+    let By : CommandStop → Type 0 = λ r. HasEnded r b a before after s in
     subst By read ends
 
-pub stop-read : (told : Option FileMap) (asked : Ask) (ports : List (Option Row))
-    (b a : ℕ) (stop : Stop) (s : Status) (b' a' : ℕ) (before after : Option (List ℕ)) →
-    IsStop told (IsAnswerIn asked ports) b a stop → Ends stop b' a' before after s → s ≡ Read →
-    Rose b a ⊎ IsSomeAnd told (λ files. IsAnswerIn asked ports files Missing)
-stop-read told asked ports b a (why.Refused refusal) s b' a' before after is (inl puts) read =
+pub stop-read : (contents : Option FileMap) (asked : Ask) (ports : List (Option Row))
+    (b a : ℕ) (stop : CommandStop) (s : Status) (b' a' : ℕ) (before after : Option (List ℕ)) →
+    IsStop contents (IsAnswerIn asked ports) b a stop → HasEnded stop b' a' before after s
+    → s ≡ Read →
+    HasRisen b a ⊎ IsSomeAnd contents (λ files. IsAnswerIn asked ports files Missing)
+stop-read contents asked ports b a (why.Refused refusal) s b' a' before after is (inl puts) read =
     absurd (no_refusal refusal s Read puts.0 read (omega arith) (omega arith))
-stop-read told asked ports b a (why.Refused refusal) s b' a' before after is (inr fails) read =
+stop-read contents asked ports b a (why.Refused refusal) s b' a' before after is (inr fails) read =
     let e = fails.0 in cc
-stop-read told asked ports b a (why.Differs line) s b' a' before after is (inl puts) read =
+stop-read contents asked ports b a (why.Differs line) s b' a' before after is (inl puts) read =
     let e = ap number_of read in absurd (omega (arith, e, puts.0))
-stop-read told asked ports b a (why.Differs line) s b' a' before after is (inr fails) read =
+stop-read contents asked ports b a (why.Differs line) s b' a' before after is (inr fails) read =
     let e = fails.0 in cc
-stop-read told asked ports b a why.Read s b' a' before after is ends read = is
-stop-read told asked ports b a why.NoMemory s b' a' before after is ends read = cc
+stop-read contents asked ports b a why.Read s b' a' before after is ends read = is
+stop-read contents asked ports b a why.NoMemory s b' a' before after is ends read = cc
 
 -- after a failure of the sink
-pub stop-write : (stop : Stop) (s : Status) (b' a' : ℕ) (before after : Option (List ℕ)) →
-    Ends stop b' a' before after s → s ≡ Write → Rose b' a'
+pub stop-write : (stop : CommandStop) (s : Status) (b' a' : ℕ) (before after : Option (List ℕ)) →
+    HasEnded stop b' a' before after s → s ≡ Write → HasRisen b' a'
 stop-write (why.Refused refusal) s b' a' before after (inl puts) write =
     absurd (no_refusal refusal s Write puts.0 write (omega arith) (omega arith))
 stop-write (why.Refused refusal) s b' a' before after (inr fails) write = fails.1
@@ -97,31 +98,32 @@ stop-write (why.Differs line) s b' a' before after (inr fails) write = fails.1
 stop-write why.Read s b' a' before after ends write = absurd (cc)
 stop-write why.NoMemory s b' a' before after ends write = absurd (cc)
 
-pub stop-front : (told : Option FileMap) (asked : Ask) (ports : List (Option Row))
-    (b a : ℕ) (stop : Stop) (s : Status) (b' a' : ℕ) (before after : Option (List ℕ)) →
-    IsStop told (IsAnswerIn asked ports) b a stop → Ends stop b' a' before after s → s ≡ Write →
-    IfSome told (λ files. Began (IsAnswerIn asked ports files) before after)
-stop-front None asked ports b a stop s b' a' before after is ends write = tt
-stop-front (Some files) asked ports b a (why.Refused refusal) s b' a' before after is
+pub stop-prefix : (contents : Option FileMap) (asked : Ask) (ports : List (Option Row))
+    (b a : ℕ) (stop : CommandStop) (s : Status) (b' a' : ℕ) (before after : Option (List ℕ)) →
+    IsStop contents (IsAnswerIn asked ports) b a stop → HasEnded stop b' a' before after s
+    → s ≡ Write →
+    IfSome contents (λ files. Began (IsAnswerIn asked ports files) before after)
+stop-prefix None asked ports b a stop s b' a' before after is ends write = tt
+stop-prefix (Some files) asked ports b a (why.Refused refusal) s b' a' before after is
     (inl puts) write = absurd (no_refusal refusal s Write puts.0 write (omega arith) (omega arith))
-stop-front (Some files) asked ports b a
+stop-prefix (Some files) asked ports b a
     (why.Refused refusal) s b' a' before after is (inr fails) write =
-    record { answer = refusal_answer refusal; is = is; front = fails.2 }
-stop-front (Some files) asked ports b a (why.Differs line) s b' a' before after is
+    record { answer = refusal_answer refusal; is = is; prefix = fails.2 }
+stop-prefix (Some files) asked ports b a (why.Differs line) s b' a' before after is
     (inl puts) write = let e = ap number_of write in absurd (omega (arith, e, puts.0))
-stop-front (Some files) asked ports b a
+stop-prefix (Some files) asked ports b a
     (why.Differs line) s b' a' before after is (inr fails) write =
-    record { answer = Says 1 (differs_text line); is = is; front = fails.2 }
-stop-front (Some files) asked ports b a why.Read s b' a' before after is ends write = absurd (cc)
-stop-front (Some files) asked ports b a why.NoMemory s b' a' before after is ends write =
+    record { answer = Says 1 (differs_text line); is = is; prefix = fails.2 }
+stop-prefix (Some files) asked ports b a why.Read s b' a' before after is ends write = absurd (cc)
+stop-prefix (Some files) asked ports b a why.NoMemory s b' a' before after is ends write =
     absurd (cc)
 
 -- without a failure
-pub stop-complete : (told : Option FileMap) (asked : Ask) (ports : List (Option Row))
-    (b a : ℕ) (stop : Stop) (s : Status) (b' a' : ℕ) (before after : Option (List ℕ)) →
-    IsStop told (IsAnswerIn asked ports) b a stop →
-    Ends stop b' a' before after s → (Rose b a → ⊥) → (Rose b' a' → ⊥) →
-    IfSome told (λ files. (number_of s ≡ 9)
+pub stop-complete : (contents : Option FileMap) (asked : Ask) (ports : List (Option Row))
+    (b a : ℕ) (stop : CommandStop) (s : Status) (b' a' : ℕ) (before after : Option (List ℕ)) →
+    IsStop contents (IsAnswerIn asked ports) b a stop →
+    HasEnded stop b' a' before after s → (HasRisen b a → ⊥) → (HasRisen b' a' → ⊥) →
+    IfSome contents (λ files. (number_of s ≡ 9)
     ⊎ Answered (IsAnswerIn asked ports files) (number_of s))
 stop-complete None asked ports b a stop s b' a' before after is ends fetches puts = tt
 stop-complete (Some files) asked ports b a
@@ -143,8 +145,8 @@ stop-complete (Some files) asked ports b a why.NoMemory s b' a' before after is 
     inl (ap number_of ends)
 
 -- its status is neither Ok nor that of a usage error
-stop_number : (stop : Stop) (s : Status) (b' a' : ℕ) (before after : Option (List ℕ)) →
-    Ends stop b' a' before after s → (number_of s ≡ 1) ⊎ (3 ≤ number_of s)
+stop_number : (stop : CommandStop) (s : Status) (b' a' : ℕ) (before after : Option (List ℕ)) →
+    HasEnded stop b' a' before after s → (number_of s ≡ 1) ⊎ (3 ≤ number_of s)
 stop_number (why.Refused refusal) s b' a' before after (inl puts) =
     inr (refusal_number refusal (number_of s) puts.0).0
 stop_number (why.Refused refusal) s b' a' before after (inr fails) =
@@ -162,22 +164,23 @@ no_number n k (inl one) same (inr is) = omega (arith, one, same, is)
 no_number n k (inr more) same (inl is) = omega (arith, more, same, is)
 no_number n k (inr more) same (inr is) = omega (arith, more, same, is)
 
-pub stop-usage : (stop : Stop) (s : Status) (b' a' : ℕ) (before after : Option (List ℕ)) →
-    Ends stop b' a' before after s → s ≡ Usage → ⊥
+pub stop-usage : (stop : CommandStop) (s : Status) (b' a' : ℕ) (before after : Option (List ℕ)) →
+    HasEnded stop b' a' before after s → s ≡ Usage → ⊥
 stop-usage stop s b' a' before after ends usage =
     no_number (number_of s) 2 (stop_number stop s b' a' before after ends)
     (ap number_of usage) (inr refl)
 
-pub stop-leaves : (told : Option FileMap) (asked : Ask) (ports last : List (Option Row))
-    (stop : Stop) (s : Status) (b' a' : ℕ) (before after : Option (List ℕ)) →
-    Ends stop b' a' before after s → s ≡ Ok → IfSome told (λ files. Leaves asked files ports last)
-stop-leaves told asked ports last stop s b' a' before after ends ok =
+pub stop-leaves : (contents : Option FileMap) (asked : Ask) (ports last : List (Option Row))
+    (stop : CommandStop) (s : Status) (b' a' : ℕ) (before after : Option (List ℕ)) →
+    HasEnded stop b' a' before after s → s ≡ Ok → IfSome contents (λ files. Leaves asked
+    files ports last)
+stop-leaves contents asked ports last stop s b' a' before after ends ok =
     absurd (no_number (number_of s) 0 (stop_number stop s b' a' before after ends)
     (ap number_of ok) (inl refl))
 
 -- a status other than Differs and Write isn't that of a difference
-pub no-difference : (stop : Stop) (s : Status) (b' a' : ℕ) (before after : Option (List ℕ)) →
-    Ends stop b' a' before after s → (s ≡ Differs → ⊥) → (s ≡ Write → ⊥) →
+pub no-difference : (stop : CommandStop) (s : Status) (b' a' : ℕ) (before after : Option (List ℕ)) →
+    HasEnded stop b' a' before after s → (s ≡ Differs → ⊥) → (s ≡ Write → ⊥) →
     is_difference stop ≡ false
 no-difference (why.Refused refusal) s b' a' before after ends differs write = refl
 no-difference (why.Differs line) s b' a' before after (inl puts) differs write =
@@ -188,14 +191,16 @@ no-difference why.Read s b' a' before after ends differs write = refl
 no-difference why.NoMemory s b' a' before after ends differs write = refl
 
 -- a command that ends with Differs wasn't stopped by a failed allocation
-pub difference-no_memory : (stop : Stop) (s : Status) (b' a' : ℕ) (before after : Option (List ℕ)) →
-    Ends stop b' a' before after s → s ≡ Differs → stop ≡ why.NoMemory → ⊥
+pub difference-no_memory : (stop : CommandStop) (s : Status) (b' a' : ℕ) (before after
+    : Option (List ℕ)) →
+    HasEnded stop b' a' before after s → s ≡ Differs → stop ≡ why.NoMemory → ⊥
 difference-no_memory stop s b' a' before after ends differs memory =
-    let Stops : Stop → Type 0 = λ stop. Ends stop b' a' before after s in
+    let Stops : CommandStop → Type 0 = λ stop. HasEnded stop b' a' before after s in
     let none : s ≡ NoMemory = subst Stops memory ends in cc
 
-pub write-no_memory : (stop : Stop) (s : Status) (b' a' : ℕ) (before after : Option (List ℕ)) →
-    Ends stop b' a' before after s → s ≡ Write → stop ≡ why.NoMemory → ⊥
+pub write-no_memory : (stop : CommandStop) (s : Status) (b' a' : ℕ) (before after : Option (List ℕ))
+    →
+    HasEnded stop b' a' before after s → s ≡ Write → stop ≡ why.NoMemory → ⊥
 write-no_memory stop s b' a' before after ends write memory =
-    let Stops : Stop → Type 0 = λ stop. Ends stop b' a' before after s in
+    let Stops : CommandStop → Type 0 = λ stop. HasEnded stop b' a' before after s in
     let none : s ≡ NoMemory = subst Stops memory ends in cc

@@ -1,22 +1,22 @@
 -- The answer of a command line over given files.
 use Rattle.std.specs.Prelude.{◌≡◌, ◌⊎◌, ◌≤◌, ℕ, List, [], Option, Some, None, Ok}
-use Rattle.machine.specs.Feeding.{IsFedFront, fed_all}
+use Rattle.machine.specs.Feeding.{IsFedPrefix, fed_all}
 use Rattle.machine.specs.WorldRelation.{PortsAfter}
-use Rattle.command_files.specs.declared.program.Program.{Program}
+use Rattle.commands.specs.declared.program.Program.{Program}
 use Rattle.fp_io.specs.Content.{FileMap}
-use Rattle.ask_words.specs.Commands.{ask}
-use Rattle.ask_words.specs.declared.asked.Ask.{Ask}
-use Rattle.ask_words.specs.declared.asked.Ask.TheVariants.{Run, Dump, Asm, Bound, Selfrun}
-use Rattle.ask_words.specs.declared.asked.Ask.TheVariants.{Phases, Solo, Check, Elf, Calls}
+use Rattle.command_line.specs.Commands.{ask}
+use Rattle.command_line.specs.declared.asked.Ask.{Ask}
+use Rattle.command_line.specs.declared.asked.Ask.TheVariants.{Run, Dump, Asm, Bound, Selfrun}
+use Rattle.command_line.specs.declared.asked.Ask.TheVariants.{Phases, Solo, Check, Elf, Calls}
 use Rattle.selfrun.specs.Text.{selfrun_text}
-use Rattle.command_files.specs.Answer.{Answer, IsSaid, WritesFront, IsAnswered}
-use Rattle.command_files.specs.Answer.Answer.{Says}
+use Rattle.commands.specs.Answer.{Answer, IsSaid, WritesPrefix, IsAnswered}
+use Rattle.commands.specs.Answer.Answer.{Says}
 use Rattle.flexpret_top.specs.SoloAndCheck.{solo_answer, check_answer}
-use Rattle.command_files.specs.Assembled.{asm_answer}
-use Rattle.command_files.specs.BoundAnswer.{IsBoundAnswer}
-use Rattle.command_files.specs.CallsAnswer.{IsCallsAnswer}
-use Rattle.command_files.specs.Elf.{elf_answer}
-use Rattle.command_files.specs.Program.{program}
+use Rattle.commands.specs.Assembled.{asm_answer}
+use Rattle.commands.specs.BoundAnswer.{IsBoundAnswer}
+use Rattle.commands.specs.CallsAnswer.{IsCallsAnswer}
+use Rattle.commands.specs.Elf.{elf_answer}
+use Rattle.commands.specs.Program.{program}
 use Rattle.flexpret_top.specs.Run.{start_of, run_answer, dump_answer, phases_answer}
 use Rattle.fp_ports.specs.PluggedPorts.{Row}
 
@@ -100,7 +100,7 @@ pub record IsFedInPart (files : FileMap) (name : List ℕ)
     (before after : List (Option Row)) : Type 0 where
   pub made : Program
   pub is : program files name ≡ Ok made
-  pub fed : IsFedFront made.setup before after
+  pub fed : IsFedPrefix made.setup before after
 
 -- the ports of a machine that wasn't run
 abbrev pub IsUnrun : FileMap → List ℕ → List (Option Row) → List (Option Row) → Type 0
@@ -155,7 +155,7 @@ pub record Said (Is : Answer → Type 0) (status : ℕ) (before after : Option (
 pub record Began (Is : Answer → Type 0) (before after : Option (List ℕ)) : Type 0 where
   pub answer : Answer
   pub is : Is answer
-  pub front : WritesFront before after answer
+  pub prefix : WritesPrefix before after answer
 
 -- a status belongs to such an answer
 pub record Answered (Is : Answer → Type 0) (status : ℕ) : Type 0 where

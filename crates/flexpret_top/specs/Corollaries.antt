@@ -9,19 +9,19 @@ use Rattle.core_model.specs.Solo.{solo}
 use Rattle.fp_setup.specs.Rules.{KeepsRules}
 use Rattle.region_tree.specs.Tree.{graph}
 use Rattle.region_tree.specs.declared.section.Section.{Section}
-use Rattle.run_laws.specs.TraceLaws.{Machine, IsConfinedHard, IsConfinedThrough}
-use Rattle.run_laws.specs.TraceLaws.{IsQuiet, KeepsRegions, phases_in, view_of}
-use Rattle.section_visits.specs.CallVisits.{IsCallVisit, KeepsCallBounds, KeepsReturns}
-use Rattle.section_visits.specs.InSettings.{Throughout}
-use Rattle.section_visits.specs.SetupCallVisitBound.{IsAlikeInParts}
-use Rattle.section_visits.specs.SetupInSettings.{HasSameWords, HasSameWordsOfParts, IsHardPhase}
-use Rattle.section_visits.specs.SetupInSettings.{KeepsScheduling, StartsHard}
-use Rattle.section_visits.specs.SetupVisitBound.{IsAlike, issues}
-use Rattle.section_visits.specs.Visits.{Issued, IsVisit, KeepsBounds, first_of}
+use Rattle.isolation.specs.TraceLaws.{Machine, IsConfinedHard, IsConfinedThrough}
+use Rattle.isolation.specs.TraceLaws.{IsQuiet, KeepsRegions, phases_in, view_of}
+use Rattle.visit_bounds.specs.CallVisits.{IsCallVisit, KeepsCallBounds, KeepsReturns}
+use Rattle.visit_bounds.specs.InSettings.{Throughout}
+use Rattle.visit_bounds.specs.SetupCallVisitBound.{IsAlikeInFunctions}
+use Rattle.visit_bounds.specs.SetupInSettings.{HasSameWords, HasSameWordsOfFunctions, IsHardPhase}
+use Rattle.visit_bounds.specs.SetupInSettings.{KeepsScheduling, StartsHard}
+use Rattle.visit_bounds.specs.SetupVisitBound.{IsAlike, issues}
+use Rattle.visit_bounds.specs.Visits.{Issued, IsVisit, KeepsBounds, first_of}
 use Rattle.trace_print.specs.Text.{text}
-use Rattle.command_files.specs.BoundAnswer.{section_tree}
-use Rattle.command_files.specs.CallsAnswer.{section_listing}
-use Rattle.command_files.specs.declared.program.Program.{Program}
+use Rattle.commands.specs.BoundAnswer.{section_tree}
+use Rattle.commands.specs.CallsAnswer.{section_listing}
+use Rattle.commands.specs.declared.program.Program.{Program}
 use Rattle.flexpret_top.specs.Headline.{IsIsolated, IsLongest, IsLongestByCalls}
 
 -- a confined hard thread, in a run that writes no configuration register
@@ -90,14 +90,14 @@ LongestByCallsWhileScheduled =
     (p : Program) (i : ℕ) (section : Section) (file : List ℕ) (before after : Option (List ℕ))
     (h : IsLongestByCalls p i section file before after) (m : Machine) (n : ℕ) →
     KeepsRules m.setup → StartsHard m i p.setup.slots →
-    HasSameWordsOfParts m (calls (section_listing p section h.routines)) → KeepsScheduling m n →
+    HasSameWordsOfFunctions m (calls (section_listing p section h.routines)) → KeepsScheduling m n →
     CallVisitsTakeAtMost (calls (section_listing p section h.routines)) h.cycles m i n
 
 abbrev pub LongestByCallsByPhases : Type 0
 LongestByCallsByPhases =
     (p : Program) (i : ℕ) (section : Section) (file : List ℕ) (before after : Option (List ℕ))
     (h : IsLongestByCalls p i section file before after) (m : Machine) (n : ℕ) →
-    KeepsRules m.setup → HasSameWordsOfParts m (calls (section_listing p section h.routines)) →
+    KeepsRules m.setup → HasSameWordsOfFunctions m (calls (section_listing p section h.routines)) →
     (last : Issued) (earlier : List Issued) → last.cycle ≤ n - cycles_to_w + cycles_to_e →
     Throughout (λ c. IsHardPhase p.setup.slots i (phase_at (phases_in m n) c))
     (first_of last earlier).cycle last.cycle →
@@ -111,5 +111,5 @@ LongestByCallsWhileQuiet =
     (p : Program) (i : ℕ) (section : Section) (file : List ℕ) (before after : Option (List ℕ))
     (h : IsLongestByCalls p i section file before after) (m : Machine) (n : ℕ) →
     KeepsRules m.setup →
-    IsAlikeInParts m i p.setup.slots (calls (section_listing p section h.routines)) →
+    IsAlikeInFunctions m i p.setup.slots (calls (section_listing p section h.routines)) →
     IsQuiet m n → CallVisitsTakeAtMost (calls (section_listing p section h.routines)) h.cycles m i n

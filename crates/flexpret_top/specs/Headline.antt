@@ -4,16 +4,16 @@ use Rattle.std.specs.Io.KnownBytes.{Appends}
 use Rattle.fp_io.specs.Content.{FileMap}
 use Rattle.region_guard.specs.MemoryMap.{large_size}
 use Rattle.fp_ports.specs.PluggedPorts.{Row}
-use Rattle.ask_words.specs.declared.asked.Ask.{Ask}
-use Rattle.ask_words.specs.declared.asked.Ask.TheVariants.{Run, Bound, Solo, Elf, Calls}
+use Rattle.command_line.specs.declared.asked.Ask.{Ask}
+use Rattle.command_line.specs.declared.asked.Ask.TheVariants.{Run, Bound, Solo, Elf, Calls}
 use Rattle.bound_calc.specs.Bound.{IsBound, course}
 use Rattle.call_bounds.specs.RoutinesFile.{routines_of}
 use Rattle.call_bounds.specs.declared.routines.Routine.{Routine}
 use Rattle.call_bounds.specs.CallRefusals.{IsCallable, IsListing}
 use Rattle.call_bounds.specs.CallWalk.{IsCallBound, route}
 use Rattle.call_bounds.specs.Listing.{calls}
-use Rattle.section_visits.specs.CallVisits.{IsCallVisit, KeepsReturns}
-use Rattle.section_visits.specs.CallVisits.{KeepsCallBounds}
+use Rattle.visit_bounds.specs.CallVisits.{IsCallVisit, KeepsReturns}
+use Rattle.visit_bounds.specs.CallVisits.{KeepsCallBounds}
 use Rattle.core_model.specs.Solo.{solo}
 use Rattle.fp_elf.specs.Elf.{elf_of}
 use Rattle.fp_setup.specs.Rules.{KeepsRules}
@@ -23,20 +23,20 @@ use Rattle.fp_image.specs.declared.parts.Segment.{Segment}
 use Rattle.region_tree.specs.Tree.{IsTree, graph}
 use Rattle.region_tree.specs.declared.section.Section.{Section}
 use Rattle.core_model.specs.Phased.{phased}
-use Rattle.run_laws.specs.RetiredTraces.{IsRetiredQuiet, KeepsRetiredRegions}
-use Rattle.run_laws.specs.TraceLaws.{Machine, IsConfinedHard, IsConfinedThrough}
-use Rattle.run_laws.specs.TraceLaws.{phases_in, trace, view_of}
-use Rattle.section_visits.specs.InSettings.{Throughout}
-use Rattle.section_visits.specs.SetupInSettings.{HasSameWords, HasSameWordsOfParts}
-use Rattle.section_visits.specs.SetupInSettings.{IsSetIn}
-use Rattle.section_visits.specs.SetupVisitBound.{issues}
+use Rattle.isolation.specs.RetiredTraces.{IsRetiredQuiet, KeepsRetiredRegions}
+use Rattle.isolation.specs.TraceLaws.{Machine, IsConfinedHard, IsConfinedThrough}
+use Rattle.isolation.specs.TraceLaws.{phases_in, trace, view_of}
+use Rattle.visit_bounds.specs.InSettings.{Throughout}
+use Rattle.visit_bounds.specs.SetupInSettings.{HasSameWords, HasSameWordsOfFunctions}
+use Rattle.visit_bounds.specs.SetupInSettings.{IsSetIn}
+use Rattle.visit_bounds.specs.SetupVisitBound.{issues}
 use Rattle.trace_print.specs.Bounds.{bound_text}
 use Rattle.trace_print.specs.Text.{text}
-use Rattle.section_visits.specs.Visits.{Issued, IsVisit, KeepsBounds, first_of}
-use Rattle.command_files.specs.declared.program.Program.{Program}
-use Rattle.command_files.specs.BoundAnswer.{section_tree}
-use Rattle.command_files.specs.CallsAnswer.{section_listing}
-use Rattle.command_files.specs.Program.{program}
+use Rattle.visit_bounds.specs.Visits.{Issued, IsVisit, KeepsBounds, first_of}
+use Rattle.commands.specs.declared.program.Program.{Program}
+use Rattle.commands.specs.BoundAnswer.{section_tree}
+use Rattle.commands.specs.CallsAnswer.{section_listing}
+use Rattle.commands.specs.Program.{program}
 
 -- the machine of a program with the ports as they are handed in
 abbrev pub machine_of : Program → List (Option Row) → Machine
@@ -108,7 +108,7 @@ pub record IsLongestByCalls (p : Program) (i : ℕ) (section : Section) (file : 
   pub accepted : IsCallable (calls (section_listing p section routines))
   pub met : IsCallBound (route (calls (section_listing p section routines)) p.setup.slots i) cycles
   pub longest : (m : Machine) (n : ℕ) → KeepsRules m.setup →
-      HasSameWordsOfParts m (calls (section_listing p section routines)) →
+      HasSameWordsOfFunctions m (calls (section_listing p section routines)) →
       (last : Issued) (earlier : List Issued) →
       Throughout (IsSetIn m i p.setup.slots n) (first_of last earlier).cycle last.cycle →
       IsCallVisit (calls (section_listing p section routines)) (issues m i n) last earlier →

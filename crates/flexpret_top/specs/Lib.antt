@@ -8,9 +8,9 @@ pub mod Headline
 pub mod Outcome
 pub mod Corollaries
 pub mod ProgramRules
-pub use Rattle.ask_words.specs.Commands
-pub use Rattle.ask_words.specs.Limits
-pub use Rattle.ask_words.specs.declared.asked.Ask
+pub use Rattle.command_line.specs.Commands
+pub use Rattle.command_line.specs.Limits
+pub use Rattle.command_line.specs.declared.asked.Ask
 pub use Rattle.bound_calc.specs.Bound
 pub use Rattle.call_bounds.specs.CallRefusals
 pub use Rattle.call_bounds.specs.CallWalk
@@ -20,10 +20,11 @@ pub use Rattle.core_model.specs.Cycles
 pub use Rattle.core_model.specs.Solo
 pub use Rattle.core_model.specs.Thread
 pub use Rattle.core_model.specs.View as ThreadView
-pub use Rattle.command_files.specs.Assembled
-pub use Rattle.command_files.specs.BoundAnswer
-pub use Rattle.command_files.specs.CallsAnswer
-pub use Rattle.command_files.specs.Elf as ElfAnswer
+pub use Rattle.commands.specs.Assembled
+pub use Rattle.commands.specs.BoundAnswer
+pub use Rattle.commands.specs.CallsAnswer
+pub use Rattle.commands.specs.Codes
+pub use Rattle.commands.specs.Elf as ElfAnswer
 pub use Rattle.fp_elf.specs.Elf
 pub use Rattle.fp_image.specs.Format
 pub use Rattle.fp_image.specs.Rules as ImageRules
@@ -48,33 +49,34 @@ pub use Rattle.core_model.specs.Phased
 pub use Rattle.core_model.specs.Phases
 pub use Rattle.core_model.specs.SettingLaws
 pub use Rattle.core_model.specs.declared.phase.Phase
-pub use Rattle.command_files.specs.Answer
-pub use Rattle.command_files.specs.Program
-pub use Rattle.command_files.specs.Status
-pub use Rattle.command_files.specs.Stops
-pub use Rattle.command_files.specs.declared.program.Program as LoadedProgram
-pub use Rattle.command_files.specs.declared.status.Status as StatusType
-pub use Rattle.command_files.specs.declared.stop.Stop
+pub use Rattle.commands.specs.Answer
+pub use Rattle.commands.specs.Program
+pub use Rattle.commands.specs.Status
+pub use Rattle.commands.specs.Stops
+pub use Rattle.commands.specs.declared.codes.SectionNo
+pub use Rattle.commands.specs.declared.program.Program as LoadedProgram
+pub use Rattle.commands.specs.declared.status.Status as StatusType
+pub use Rattle.commands.specs.declared.stop.CommandStop
 pub use Rattle.region_guard.specs.MemoryMap
 pub use Rattle.region_tree.specs.Graph
 pub use Rattle.region_tree.specs.Tree
 pub use Rattle.region_tree.specs.Walk
 pub use Rattle.region_tree.specs.declared.section.Section
-pub use Rattle.run_laws.specs.Isolation
-pub use Rattle.run_laws.specs.RetiredIsolation
-pub use Rattle.run_laws.specs.RetiredTraces
-pub use Rattle.run_laws.specs.TraceLaws
-pub use Rattle.run_laws.specs.Wide
-pub use Rattle.section_visits.specs.CallVisitBound
-pub use Rattle.section_visits.specs.CallVisits
-pub use Rattle.section_visits.specs.CallsInSettings
-pub use Rattle.section_visits.specs.InSettings
-pub use Rattle.section_visits.specs.Premises
-pub use Rattle.section_visits.specs.SetupCallVisitBound
-pub use Rattle.section_visits.specs.SetupInSettings
-pub use Rattle.section_visits.specs.SetupVisitBound
-pub use Rattle.section_visits.specs.VisitBound
-pub use Rattle.section_visits.specs.Visits
+pub use Rattle.isolation.specs.Isolation
+pub use Rattle.isolation.specs.RetiredIsolation
+pub use Rattle.isolation.specs.RetiredTraces
+pub use Rattle.isolation.specs.TraceLaws
+pub use Rattle.isolation.specs.Wide
+pub use Rattle.visit_bounds.specs.CallVisitBound
+pub use Rattle.visit_bounds.specs.CallVisits
+pub use Rattle.visit_bounds.specs.CallsInSettings
+pub use Rattle.visit_bounds.specs.InSettings
+pub use Rattle.visit_bounds.specs.Premises
+pub use Rattle.visit_bounds.specs.SetupCallVisitBound
+pub use Rattle.visit_bounds.specs.SetupInSettings
+pub use Rattle.visit_bounds.specs.SetupVisitBound
+pub use Rattle.visit_bounds.specs.VisitBound
+pub use Rattle.visit_bounds.specs.Visits
 pub use Rattle.selfrun.specs.Text as SelfrunText
 pub use Rattle.setup_model.specs.Start
 pub use Rattle.slot_scheduler.specs.ModeWord

@@ -5,14 +5,14 @@
 -- its part for files whose contents are known. The definitions of the commands' answers are in
 -- Command.antt, and those of the guarantees for a thread in Headline.antt.
 use Rattle.std.specs.Prelude.{◌≡◌, ◌≢◌, ◌⊎◌, ◌≤◌, ℕ, List, Option, None, IfSome, IsSomeAnd}
-use Rattle.fp_io.specs.Causes.{Rose}
+use Rattle.fp_io.specs.Causes.{HasRisen}
 use Rattle.fp_io.specs.Content.{FileMap, Request}
 use Rattle.fp_io.specs.declared.files.Files as files_trait
 use Rattle.fp_io.specs.declared.sink.Sink as sink_trait
 use Rattle.fp_ports.specs.PluggedPorts.{Row}
-use Rattle.ask_words.specs.declared.asked.Ask.{Ask}
-use Rattle.command_files.specs.Answer.Answer.{Missing}
-use Rattle.command_files.specs.Status.{IsStatus}
+use Rattle.command_line.specs.declared.asked.Ask.{Ask}
+use Rattle.commands.specs.Answer.Answer.{Missing}
+use Rattle.commands.specs.Status.{IsStatus}
 use Rattle.flexpret_top.specs.Command.{Answered, Began, IsAnswerTo, Said}
 use Rattle.flexpret_top.specs.Command.{LeavesBy, LeavesCutShort, LeavesUnrun}
 use Rattle.flexpret_top.specs.Command.{OnlyReadsBy, UsesNoPortBy}
@@ -46,7 +46,7 @@ abbrev pub state : {F K P : Type 0} → files_trait.Ghosts F → sink_trait.Ghos
     List (Option Row) → State F K P
 state of_files of_sink f k p rows = record {
   files = f;
-  contents = of_files.told f;
+  contents = of_files.contents f;
   requests = of_files.requests f;
   read_faults = of_files.faults f;
   sink = k;
@@ -63,10 +63,10 @@ pub record KnownOutcome {F K P : Type 0} (files : FileMap) (asked : Option Ask)
   pub said : status ≢ 7 → status ≢ 8 → status ≢ 9 →
       Said (IsAnswerTo asked files before.rows) status before.written after.written
   -- If the sink failed, a prefix of the answer's text was written.
-  pub front : status ≡ 8 → Began (IsAnswerTo asked files before.rows) before.written after.written
+  pub prefix : status ≡ 8 → Began (IsAnswerTo asked files before.rows) before.written after.written
   -- Without a fault of files or sink, the status is the answer's, unless memory ran out.
-  pub complete : ¬ Rose before.read_faults after.read_faults →
-      ¬ Rose before.write_faults after.write_faults →
+  pub complete : ¬ HasRisen before.read_faults after.read_faults →
+      ¬ HasRisen before.write_faults after.write_faults →
       (status ≡ 9) ⊎ Answered (IsAnswerTo asked files before.rows) status
   -- Isolation: `run` wrote a trace that depends only on the confined thread's own view.
   pub isolated : status ≡ 0 →
@@ -99,15 +99,15 @@ pub record Outcome {F K P : Type 0} (looks_first : Type 0) (asked : Option Ask)
   -- A command requests its files in order, each with the size that it accepts, and no others.
   pub requests : IsAskedBy asked before.contents status before.requests after.requests
   -- Files keep their contents.
-  pub told : after.contents ≡ before.contents
+  pub contents : after.contents ≡ before.contents
   -- Status 7 means a fault in reading, or that a file isn't there.
-  pub read : status ≡ 7 → Rose before.read_faults after.read_faults ⊎
+  pub read : status ≡ 7 → HasRisen before.read_faults after.read_faults ⊎
       IsSomeAnd before.contents (λ files. IsAnswerTo asked files before.rows Missing)
   -- If the first file isn't there the status is 7, or memory ran out before any file was requested.
   pub missing : LacksFirstBy looks_first asked before.contents →
       (status ≡ 7) ⊎ ((status ≡ 9) × (after.files ≡ before.files))
   -- Status 8 means a fault in writing.
-  pub write : status ≡ 8 → Rose before.write_faults after.write_faults
+  pub write : status ≡ 8 → HasRisen before.write_faults after.write_faults
   -- With status 2, 7 and 9 nothing is written.
   pub nothing : (status ≡ 2) ⊎ ((status ≡ 7) ⊎ (status ≡ 9)) → after.sink ≡ before.sink
   -- Counts of faults never fall.

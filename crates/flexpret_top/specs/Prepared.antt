@@ -1,9 +1,9 @@
 -- The text that a prepared command will write.
 use Rattle.std.specs.Io.KnownBytes.{Appends}
 use Rattle.std.specs.Prelude.{◌≡◌, ◌<◌, ◌≤◌, ℕ, List, Option, IfSome}
-use Rattle.fp_io.specs.Content.{AppendsFront, FileMap}
+use Rattle.fp_io.specs.Content.{AppendsPrefix, FileMap}
 use Rattle.fp_ports.specs.PluggedPorts.{Row}
-use Rattle.ask_words.specs.declared.asked.Ask.{Ask}
+use Rattle.command_line.specs.declared.asked.Ask.{Ask}
 use Rattle.machine.specs.WorldRelation.{Refines, AreLeft, PortsAfter}
 use Rattle.machine.specs.Feeding.{fed_all}
 use Rattle.machine.specs.declared.state.Machine.{Machine}
@@ -14,16 +14,16 @@ use Rattle.core_model.specs.Phases.{phases}
 use Rattle.trace_print.specs.Bounds.{bound_text}
 use Rattle.trace_print.specs.Text.{text}
 use Rattle.core_model.specs.World.{Start, events}
-use Rattle.command_files.specs.declared.program.Program.{Program}
+use Rattle.commands.specs.declared.program.Program.{Program}
 use Rattle.flexpret_top.specs.declared.ready.Ready.{Ready}
 use Rattle.flexpret_top.specs.declared.ready.Prepared.{Prepared}
 use Rattle.flexpret_top.specs.declared.ready.Prepared.TheVariants.{Trace, Dump, Phases, Solo}
 use Rattle.flexpret_top.specs.declared.ready.Prepared.TheVariants.{Same, Image, Bound, Selfrun}
 use Rattle.selfrun.specs.Text.{tallies_text}
 use Rattle.flexpret_top.specs.SoloAndCheck.{same_text, told_alone}
-use Rattle.command_files.specs.Answer.Answer.{Says}
+use Rattle.commands.specs.Answer.Answer.{Says}
 use Rattle.flexpret_top.specs.Command.{IsAnswerOf, Leaves, LeavesInPart}
-use Rattle.command_files.specs.Program.{program}
+use Rattle.commands.specs.Program.{program}
 use Rattle.flexpret_top.specs.Run.{start_of}
 use Rattle.std.specs.Prelude.{Ok}
 
@@ -39,23 +39,23 @@ pub record IsReady (files : FileMap) (name : List ℕ) (before after : List (Opt
 
 -- a machine at its start, which refines a world of its setup with these ports, and a text that this
 -- world defines
-pub record Runs (r : Ready) (ports : List (Option Row)) (told : Start → List ℕ)
+pub record Runs (r : Ready) (ports : List (Option Row)) (contents : Start → List ℕ)
     (written : List ℕ) : Type 0 where
   pub start : Start
   pub refines : Refines start 0 r.cycles r.machine ports
   pub starts : StartsAs start r.setup
-  pub text_is : written ≡ told start
+  pub text_is : written ≡ contents start
 
-abbrev pub Delivers : Prepared → List (Option Row) → List ℕ → Type 0
-Delivers (Trace r thread) ports written =
+abbrev pub HasDelivered : Prepared → List (Option Row) → List ℕ → Type 0
+HasDelivered (Trace r thread) ports written =
     Runs r ports (λ s. text (events s thread r.cycles)) written
-Delivers (Dump r) ports written = Runs r ports (λ s. seen s r.cycles) written
-Delivers (Phases r) ports written = Runs r ports (λ s. phases_text (phases s r.cycles)) written
-Delivers (Solo alone) ports written = written ≡ told_alone alone ports
-Delivers Same ports written = written ≡ same_text
-Delivers (Image bytes) ports written = written ≡ bytes.items
-Delivers (Bound cycles) ports written = written ≡ bound_text cycles
-Delivers (Selfrun run) ports written = written ≡ tallies_text run.tallies
+HasDelivered (Dump r) ports written = Runs r ports (λ s. seen s r.cycles) written
+HasDelivered (Phases r) ports written = Runs r ports (λ s. phases_text (phases s r.cycles)) written
+HasDelivered (Solo alone) ports written = written ≡ told_alone alone ports
+HasDelivered Same ports written = written ≡ same_text
+HasDelivered (Image bytes) ports written = written ≡ bytes.items
+HasDelivered (Bound cycles) ports written = written ≡ bound_text cycles
+HasDelivered (Selfrun run) ports written = written ≡ tallies_text run.tallies
 
 -- a requested thread is one of the eight
 abbrev pub IsThread : Prepared → Type 0
@@ -115,7 +115,7 @@ OnlyReadsFor _ = ⊥
 pub record Prepares (asked : Ask) (files : FileMap) (before after : List (Option Row))
     (p : Prepared) : Type 0 where
   pub written : List ℕ
-  pub delivers : Delivers p after written
+  pub delivers : HasDelivered p after written
   pub is : IsAnswerOf asked files before (Says 0 written)
   pub leaves : (last : List (Option Row)) → LeavesPorts p after last →
       Leaves asked files before last
@@ -125,22 +125,23 @@ pub record Prepares (asked : Ask) (files : FileMap) (before after : List (Option
 -- the same where the files' contents are known
 abbrev pub IsPrepared : Ask → Option FileMap → List (Option Row) → List (Option Row) →
     Prepared → Type 0
-IsPrepared asked told before after p = IfSome told (λ files. Prepares asked files before after p)
+IsPrepared asked contents before after p = IfSome contents (λ files. Prepares asked files
+    before after p)
 
 -- and for any ports, which it doesn't change
 abbrev pub IsPreparedApart : Ask → Option FileMap → Prepared → Type 0
-IsPreparedApart asked told p =
-    IfSome told (λ files. (ports : List (Option Row)) → Prepares asked files ports ports p)
+IsPreparedApart asked contents p =
+    IfSome contents (λ files. (ports : List (Option Row)) → Prepares asked files ports ports p)
 
 -- the text that it will write was appended whole
 abbrev pub WritesAll : Prepared → List (Option Row) → Option (List ℕ) → Option (List ℕ) → Type 0
 WritesAll p ports before after =
-    (written : List ℕ) → Delivers p ports written → Appends before after written
+    (written : List ℕ) → HasDelivered p ports written → Appends before after written
 
 -- a prefix of it was appended
 abbrev pub WritesPart : Prepared → List (Option Row) → Option (List ℕ) → Option (List ℕ) → Type 0
 WritesPart p ports before after =
-    (written : List ℕ) → Delivers p ports written → AppendsFront before after written
+    (written : List ℕ) → HasDelivered p ports written → AppendsPrefix before after written
 
 -- after so many cycles, machine and ports refine that cycle of the world, and the ports that are
 -- left show the same words as before

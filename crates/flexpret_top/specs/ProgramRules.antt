@@ -2,8 +2,8 @@
 use Rattle.std.specs.Prelude.{◌≡◌, List, ℕ, Ok}
 use Rattle.fp_io.specs.Content.{FileMap}
 use Rattle.fp_setup.specs.Rules.{KeepsRules}
-use Rattle.command_files.specs.declared.program.Program.{Program}
-use Rattle.command_files.specs.Program.{program}
+use Rattle.commands.specs.declared.program.Program.{Program}
+use Rattle.commands.specs.Program.{program}
 
 -- the setup of a program that files have keeps the rules
 abbrev pub ProgramsKeepRules : Type 0

@@ -9,9 +9,9 @@ use Rattle.core_model.specs.Phases.{phases}
 use Rattle.trace_print.specs.Text.{text}
 use Rattle.core_model.specs.World.{Start, events}
 use Rattle.setup_model.specs.Start.{start}
-use Rattle.command_files.specs.declared.program.Program.{Program}
-use Rattle.command_files.specs.Answer.{Answer, then_by, ends}
-use Rattle.command_files.specs.Program.{program}
+use Rattle.commands.specs.declared.program.Program.{Program}
+use Rattle.commands.specs.Answer.{Answer, then_by, ends}
+use Rattle.commands.specs.Program.{program}
 
 -- the start of a program's run of n cycles with the ports as they are handed in
 abbrev pub start_of : Program → List (Option Row) → ℕ → Start

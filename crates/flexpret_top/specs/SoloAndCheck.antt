@@ -18,24 +18,27 @@ use Rattle.trace_print.specs.Text.{text}
 use Rattle.trace_print.specs.declared.refusals.Refusal.TheVariants.{Section}
 use Rattle.core_model.specs.Viewed.{view}
 use Rattle.flexpret_top.specs.declared.ready.Alone.{Alone}
-use Rattle.command_files.specs.declared.program.Program.{Program}
-use Rattle.command_files.specs.Answer.{Answer, differs_text, refusal_answer}
-use Rattle.command_files.specs.Answer.{then_by, over_file, ends}
-use Rattle.command_files.specs.Answer.Answer.{Says}
-use Rattle.command_files.specs.Program.{program}
+use Rattle.commands.specs.Codes.{section_code}
+use Rattle.commands.specs.declared.codes.SectionNo.{SectionNo}
+use Rattle.commands.specs.declared.codes.SectionNo.TheVariants.{NotHard, NotConfined}
+use Rattle.commands.specs.declared.program.Program.{Program}
+use Rattle.commands.specs.Answer.{Answer, differs_text, refusal_answer}
+use Rattle.commands.specs.Answer.{then_by, over_file, ends}
+use Rattle.commands.specs.Answer.Answer.{Says}
+use Rattle.commands.specs.Program.{program}
 use Rattle.flexpret_top.specs.Run.{start_of}
 
 -- why a thread can't be run from only its view, if so: it isn't hard and awake, or else it isn't
 -- confined
-unfoldable pub alone_fault : Settings → ℕ → Option ℕ
+unfoldable pub alone_fault : Settings → ℕ → Option SectionNo
 alone_fault s i =
-    if not (mode_of s.modes i == 0) then Some 1
-    else if not (thread_setup_of s i).confined then Some 6
+    if not (mode_of s.modes i == 0) then Some NotHard
+    else if not (thread_setup_of s i).confined then Some NotConfined
     else None
 
-abbrev pub unless_fault : Program → Option ℕ → Result Program Answer
+abbrev pub unless_fault : Program → Option SectionNo → Result Program Answer
 unless_fault p None = Ok p
-unless_fault p (Some code) = Err (refusal_answer (Section code))
+unless_fault p (Some fault) = Err (refusal_answer (Section (section_code fault)))
 
 -- a program whose thread i is run from only its view
 abbrev pub alone_in : ℕ → Program → Result Program Answer

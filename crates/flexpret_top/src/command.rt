@@ -4,33 +4,33 @@ ghost use Rattle.std.specs.Prelude.{◌≡◌, ◌≢◌, ◌⊎◌, ◌≤◌, 
 ghost use Rattle.fp_ports.specs.PluggedPorts.{rows_of};
 ghost use Rattle.fp_elf.specs.Law.{ReadsBack};
 ghost use Rattle.fp_setup.specs.AcceptedSetups.{AcceptedKeepRules};
-ghost use Rattle.run_laws.specs.RetiredTraces.{RetiredTraceAlone, RetiredTraceByPhases};
-ghost use Rattle.section_visits.specs.SetupInSettings.{CallVisitsStayBoundedInSettings};
-ghost use Rattle.section_visits.specs.SetupInSettings.{VisitsStayBoundedInSettings};
-ghost use Rattle.ask_words.specs.Commands.{ask};
-ghost use Rattle.ask_words.specs.Limits.{IsWithinLimits};
-ghost use Rattle.command_files.specs.Status.{number_of};
-ghost use Rattle.command_files.specs.declared.stop.Stop.{Stop};
-ghost use Rattle.flexpret_top.specs.Endings.{Ends};
+ghost use Rattle.isolation.specs.RetiredTraces.{RetiredTraceAlone, RetiredTraceByPhases};
+ghost use Rattle.visit_bounds.specs.SetupInSettings.{CallVisitsStayBoundedInSettings};
+ghost use Rattle.visit_bounds.specs.SetupInSettings.{VisitsStayBoundedInSettings};
+ghost use Rattle.command_line.specs.Commands.{ask};
+ghost use Rattle.command_line.specs.Limits.{IsWithinLimits};
+ghost use Rattle.commands.specs.Status.{number_of};
+ghost use Rattle.commands.specs.declared.stop.CommandStop.{CommandStop};
+ghost use Rattle.flexpret_top.specs.Endings.{HasEnded};
 ghost use Rattle.flexpret_top.specs.Outcome.{Outcome, state};
 
 use crate::deliver::deliver;
 use crate::prepare::prepare;
-use ask_words::{Ask, WordsNo, read_words};
-use command_files::{Status, Stop, difference_line};
+use command_line::{Ask, WordsNo, read_words};
+use commands::{CommandStop, Status, difference_line};
 use fp_elf::reads_back;
 use fp_io::{Files, PutFailed, Sink};
 use fp_ports::Ports;
 use fp_setup::accepted_keep_rules;
-use run_laws::retired_traces::{traces_alone, traces_by_phases};
-use section_visits::setups::{calls_stay_bounded_in_settings, stays_bounded_in_settings};
+use isolation::retired_traces::{traces_alone, traces_by_phases};
 use std::alloc::Global;
 use trace_print::{Refusal, refusal_line};
+use visit_bounds::setups::{calls_stay_bounded_in_settings, stays_bounded_in_settings};
 
 /// Writes the line of a refusal.
 fn refuse<K: Sink>(refusal: &Refusal, out: &mut K) -> Status
     ensures counted { K.faults out.old ≤ K.faults out.new }
-    ensures ends { Ends (Stop.Refused refusal.now) (K.faults out.old) (K.faults out.new)
+    ensures ends { HasEnded (CommandStop.Refused refusal.now) (K.faults out.old) (K.faults out.new)
         (K.taken out.old) (K.taken out.new) result }
     ensures statuses { (result ≢ Status.Read) × (result ≢ Status.NoMemory) }
 {
@@ -43,7 +43,7 @@ fn refuse<K: Sink>(refusal: &Refusal, out: &mut K) -> Status
 /// Writes the line of a trace that isn't the defined one.
 fn write_difference<K: Sink>(line: u64, out: &mut K) -> Status
     ensures counted { K.faults out.old ≤ K.faults out.new }
-    ensures ends { Ends (Stop.Differs line) (K.faults out.old) (K.faults out.new)
+    ensures ends { HasEnded (CommandStop.Differs line) (K.faults out.old) (K.faults out.new)
         (K.taken out.old) (K.taken out.new) result }
     ensures statuses { (result ≢ Status.Read) × (result ≢ Status.NoMemory) }
 {
@@ -54,18 +54,18 @@ fn write_difference<K: Sink>(line: u64, out: &mut K) -> Status
 }
 
 /// Ends a command before its text.
-fn end<K: Sink>(stop: Stop, out: &mut K) -> Status
+fn end<K: Sink>(stop: CommandStop, out: &mut K) -> Status
     ensures counted { K.faults out.old ≤ K.faults out.new }
-    ensures ends { Ends stop (K.faults out.old) (K.faults out.new)
+    ensures ends { HasEnded stop (K.faults out.old) (K.faults out.new)
         (K.taken out.old) (K.taken out.new) result }
     ensures nothing { (result ≡ Status.Read) ⊎ (result ≡ Status.NoMemory)
         → out.new ≡ out.old }
 {
     match stop {
-        Stop::Refused(refusal) => refuse(&refusal, out),
-        Stop::Differs { line } => write_difference(line, out),
-        Stop::Read => Status::Read,
-        Stop::NoMemory => Status::NoMemory,
+        CommandStop::Refused(refusal) => refuse(&refusal, out),
+        CommandStop::Differs { line } => write_difference(line, out),
+        CommandStop::Read => Status::Read,
+        CommandStop::NoMemory => Status::NoMemory,
     }
 }
 

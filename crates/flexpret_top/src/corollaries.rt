@@ -7,7 +7,7 @@ ghost use Rattle.flexpret_top.specs.Corollaries.{LongestByCallsWhileScheduled};
 ghost use Rattle.flexpret_top.specs.Corollaries.{LongestWhileScheduled};
 ghost use Rattle.flexpret_top.specs.Corollaries.{QuietIsolation, QuietIsolationByPhases};
 
-use section_visits::premises::{has_same_words, phase_is_set, start_is_set};
+use visit_bounds::premises::{has_same_words, phase_is_set, start_is_set};
 
 /// If no issue writes a configuration register, retired or in flight, the trace that `run` wrote
 /// for a confined hard thread follows from its view. If none writes a region register, it follows

@@ -1,7 +1,7 @@
 //! Writes the prepared text to the sink.
 
 ghost use Rattle.std.specs.Prelude.{◌≡◌, ◌⊎◌, ◌≤◌, ◌<◌, OnOk, OnErr, vec_len};
-ghost use Rattle.fp_io.specs.Causes.{Rose};
+ghost use Rattle.fp_io.specs.Causes.{HasRisen};
 ghost use Rattle.timer_unit.specs.Time.{most_cycles};
 ghost use Rattle.fp_ports.specs.PluggedPorts.{rows_of};
 ghost use Rattle.core_model.specs.World.{Start};
@@ -53,7 +53,7 @@ fn put_trace<K: Sink>(
         (rows_of latched word_at ports.old.items) (K.taken out.old) (K.taken out.new)) }
     ensures err { OnErr result (WritesPart (Prepared.Trace ready thread)
         (rows_of latched word_at ports.old.items) (K.taken out.old) (K.taken out.new)) }
-    ensures failed { OnErr result (Rose (K.faults out.old) (K.faults out.new)) }
+    ensures failed { OnErr result (HasRisen (K.faults out.old) (K.faults out.new)) }
     ensures counted { K.faults out.old ≤ K.faults out.new }
     ensures left { OnOk result (LeavesPorts (Prepared.Trace ready thread)
         (rows_of latched word_at ports.old.items) (rows_of latched word_at ports.new.items)) }
@@ -72,7 +72,7 @@ fn put_dump<K: Sink>(ready: Ready, ports: &mut Ports, out: &mut K) -> Result<(),
         (rows_of latched word_at ports.old.items) (K.taken out.old) (K.taken out.new)) }
     ensures err { OnErr result (WritesPart (Prepared.Dump ready)
         (rows_of latched word_at ports.old.items) (K.taken out.old) (K.taken out.new)) }
-    ensures failed { OnErr result (Rose (K.faults out.old) (K.faults out.new)) }
+    ensures failed { OnErr result (HasRisen (K.faults out.old) (K.faults out.new)) }
     ensures counted { K.faults out.old ≤ K.faults out.new }
     ensures left { LeavesPorts (Prepared.Dump ready)
         (rows_of latched word_at ports.old.items) (rows_of latched word_at ports.new.items) }
@@ -90,7 +90,7 @@ fn put_phases<K: Sink>(ready: Ready, ports: &mut Ports, out: &mut K) -> Result<(
         (rows_of latched word_at ports.old.items) (K.taken out.old) (K.taken out.new)) }
     ensures err { OnErr result (WritesPart (Prepared.Phases ready)
         (rows_of latched word_at ports.old.items) (K.taken out.old) (K.taken out.new)) }
-    ensures failed { OnErr result (Rose (K.faults out.old) (K.faults out.new)) }
+    ensures failed { OnErr result (HasRisen (K.faults out.old) (K.faults out.new)) }
     ensures counted { K.faults out.old ≤ K.faults out.new }
     ensures left { OnOk result (LeavesPorts (Prepared.Phases ready)
         (rows_of latched word_at ports.old.items) (rows_of latched word_at ports.new.items)) }
@@ -110,7 +110,7 @@ pub fn deliver<K: Sink>(prepared: Prepared, ports: &mut Ports, out: &mut K) -> R
         (rows_of latched word_at ports.old.items) (K.taken out.old) (K.taken out.new)) }
     ensures err { OnErr result (WritesPart prepared
         (rows_of latched word_at ports.old.items) (K.taken out.old) (K.taken out.new)) }
-    ensures failed { OnErr result (Rose (K.faults out.old) (K.faults out.new)) }
+    ensures failed { OnErr result (HasRisen (K.faults out.old) (K.faults out.new)) }
     ensures counted { K.faults out.old ≤ K.faults out.new }
     ensures left { OnOk result (LeavesPorts prepared
         (rows_of latched word_at ports.old.items) (rows_of latched word_at ports.new.items)) }

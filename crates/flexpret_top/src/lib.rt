@@ -17,9 +17,9 @@ mod rules;
 mod shown;
 mod view_commands;
 
-pub use ask_words::{Ask, WordsNo, read_words};
 pub use command::flexpret;
-pub use command_files::Status;
+pub use command_line::{Ask, WordsNo, read_words};
+pub use commands::Status;
 pub use core_model::{has_own_turns, tells_picks, unretired_is_unseen};
 pub use corollaries::{
     bounds_by_phases, bounds_while_quiet, bounds_while_scheduled, isolates_in_quiet_runs,
@@ -29,7 +29,7 @@ pub use fp_io::{
 };
 pub use fp_ports::{HeldPort, Port, Ports, THREADS, WavePort};
 pub use fp_setup::accepted_keep_rules;
+pub use isolation as isolation_theorems;
 pub use rules::programs_keep_rules;
-pub use run_laws as isolation_theorems;
-pub use section_visits as visit_theorems;
 pub use solo_run::setup_views_are_views;
+pub use visit_bounds as visit_theorems;

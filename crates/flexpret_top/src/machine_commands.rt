@@ -4,20 +4,20 @@ ghost use Rattle.std.specs.Prelude.{◌≡◌, ◌≢◌, ◌≤◌, ◌<◌, �
 ghost use Rattle.std.specs.Prelude.{IfErr, OnOk, OnErr, IfSome, List, Option, length, vec_len};
 ghost use Rattle.timer_unit.specs.Time.{most_cycles};
 ghost use Rattle.fp_ports.specs.PluggedPorts.{Row, rows_of};
-ghost use Rattle.ask_words.specs.declared.asked.Ask.{Ask};
-ghost use Rattle.machine.specs.Feeding.{IsFedFront, fed_all};
-ghost use Rattle.machine.specs.WorldRelation.{Refines, start_beside};
+ghost use Rattle.command_line.specs.declared.asked.Ask.{Ask};
+ghost use Rattle.machine.specs.Feeding.{IsFedPrefix, fed_all};
+ghost use Rattle.machine.specs.WorldRelation.{Refines, start_with_ports};
 ghost use Rattle.flexpret_top.specs.declared.ready.Prepared.{Prepared};
 ghost use Rattle.flexpret_top.specs.Command.{IsAnswerIn, IsUnrun};
-ghost use Rattle.command_files.specs.Program.{IsProgramAsked, program};
+ghost use Rattle.commands.specs.Program.{IsProgramAsked, program};
 ghost use Rattle.flexpret_top.specs.Prepared.{IsPrepared, IsReady, IsThread};
-ghost use Rattle.command_files.specs.Stops.{FindsNone, IsStop, IsStopIn};
-ghost use Rattle.command_files.specs.declared.stop.Stop.{Stop};
-ghost use Rattle.command_files.specs.declared.stop.Stop.TheVariants.{NoMemory};
+ghost use Rattle.commands.specs.Stops.{FindsNone, IsStop, IsStopIn};
+ghost use Rattle.commands.specs.declared.stop.CommandStop.{CommandStop};
+ghost use Rattle.commands.specs.declared.stop.CommandStop.TheVariants.{NoMemory};
 
 use crate::ready::{Prepared, Ready};
-use ask_words::Ask;
-use command_files::{Program, Stop, load};
+use command_line::Ask;
+use commands::{CommandStop, Program, load};
 use fp_io::Files;
 use fp_ports::Ports;
 use fp_setup::Name;
@@ -25,7 +25,7 @@ use machine::{Machine, feed_inputs};
 use std::alloc::{AllocError, Global};
 
 /// The machine of a program, with the ports fed.
-fn machine_beside(
+fn machine_with_ports(
     alloc: Global,
     program: &Program,
     ports: &mut Ports,
@@ -33,11 +33,11 @@ fn machine_beside(
     requires eight { vec_len ports.old ≡ 8 }
     ensures refines { IfOk result
         (λ m. (ports : List (Option Row)) (n : ℕ) → length ports ≡ 8 →
-        Refines (start_beside program.now.setup program.now.image ports n) 0 n m ports) }
+        Refines (start_with_ports program.now.setup program.now.image ports n) 0 n m ports) }
     ensures start { IfOk result (λ m. m.at ≡ 0) }
     ensures fed { OnOk result (rows_of latched word_at ports.new.items ≡
         fed_all program.now.setup (rows_of latched word_at ports.old.items)) }
-    ensures part { OnErr result (IsFedFront program.now.setup
+    ensures part { OnErr result (IsFedPrefix program.now.setup
         (rows_of latched word_at ports.old.items) (rows_of latched word_at ports.new.items)) }
     ensures eight { vec_len ports.new ≡ 8 }
 {
@@ -57,33 +57,36 @@ fn ready<F: Files>(
     cycles: u64,
     files: &mut F,
     ports: &mut Ports,
-) -> Result<Ready, Stop>
+) -> Result<Ready, CommandStop>
     requires limit { cycles ≤ most_cycles }
     requires eight { vec_len ports.old ≡ 8 }
-    ensures told { F.told files.new ≡ F.told files.old }
-    ensures asked { IsProgramAsked (F.told files.old) setup.now
+    ensures contents { F.contents files.new ≡ F.contents files.old }
+    ensures asked { IsProgramAsked (F.contents files.old) setup.now
         (F.requests files.old) (F.requests files.new) }
     ensures counted { F.faults files.old ≤ F.faults files.new }
-    ensures missing { FindsNone F.looks_first (F.told files.old) setup.now
-        → result ≡ Err Stop.Read }
-    ensures ok { IfOk result (λ r. IfSome (F.told files.old) (λ told. IsReady told setup.now
+    ensures missing { FindsNone F.looks_first (F.contents files.old) setup.now
+        → result ≡ Err CommandStop.Read }
+    ensures ok { IfOk result (λ r. IfSome (F.contents files.old) (λ contents. IsReady
+        contents setup.now
         (rows_of latched word_at ports.old.items) (rows_of latched word_at ports.new.items) r)) }
     ensures cycles { IfOk result (λ r. r.cycles ≡ cycles) }
-    ensures stop { IfErr result (IsStopIn (F.told files.old) (λ told. program told setup.now)
+    ensures stop { IfErr result (IsStopIn (F.contents files.old) (λ contents. program
+        contents setup.now)
         (F.faults files.old) (F.faults files.new)) }
     ensures kept { IfErr result (λ stop. stop ≢ NoMemory → ports.new ≡ ports.old) }
-    ensures part { OnErr result (IfSome (F.told files.old) (λ told. IsUnrun told setup.now
+    ensures part { OnErr result (IfSome (F.contents files.old) (λ contents. IsUnrun
+        contents setup.now
         (rows_of latched word_at ports.old.items) (rows_of latched word_at ports.new.items))) }
     ensures eight { vec_len ports.new ≡ 8 }
 {
     match load(alloc, setup, files) {
-        Ok(program) => match machine_beside(alloc, &program, ports) {
+        Ok(program) => match machine_with_ports(alloc, &program, ports) {
             Ok(machine) => Ok(Ready {
                 setup: program.setup,
                 machine,
                 cycles,
             }),
-            Err(AllocError) => Err(Stop::NoMemory),
+            Err(AllocError) => Err(CommandStop::NoMemory),
         },
         Err(stop) => Err(stop),
     }
@@ -100,24 +103,25 @@ pub fn trace<F: Files>(
     cycles: u64,
     files: &mut F,
     ports: &mut Ports,
-) -> Result<Prepared, Stop>
+) -> Result<Prepared, CommandStop>
     requires limit { cycles ≤ most_cycles }
     requires thread { thread < 8 }
     requires eight { vec_len ports.old ≡ 8 }
-    ensures told { F.told files.new ≡ F.told files.old }
-    ensures asked { IsProgramAsked (F.told files.old) setup.now
+    ensures contents { F.contents files.new ≡ F.contents files.old }
+    ensures asked { IsProgramAsked (F.contents files.old) setup.now
         (F.requests files.old) (F.requests files.new) }
     ensures counted { F.faults files.old ≤ F.faults files.new }
-    ensures missing { FindsNone F.looks_first (F.told files.old) setup.now
-        → result ≡ Err Stop.Read }
-    ensures ok { IfOk result (IsPrepared (Ask.Run setup.now thread cycles) (F.told files.old)
+    ensures missing { FindsNone F.looks_first (F.contents files.old) setup.now
+        → result ≡ Err CommandStop.Read }
+    ensures ok { IfOk result (IsPrepared (Ask.Run setup.now thread cycles) (F.contents files.old)
         (rows_of latched word_at ports.old.items) (rows_of latched word_at ports.new.items)) }
     ensures thread { IfOk result IsThread }
-    ensures stop { IfErr result (IsStop (F.told files.old)
+    ensures stop { IfErr result (IsStop (F.contents files.old)
         (IsAnswerIn (Ask.Run setup.now thread cycles) (rows_of latched word_at ports.old.items))
         (F.faults files.old) (F.faults files.new)) }
     ensures kept { IfErr result (λ stop. stop ≢ NoMemory → ports.new ≡ ports.old) }
-    ensures part { OnErr result (IfSome (F.told files.old) (λ told. IsUnrun told setup.now
+    ensures part { OnErr result (IfSome (F.contents files.old) (λ contents. IsUnrun
+        contents setup.now
         (rows_of latched word_at ports.old.items) (rows_of latched word_at ports.new.items))) }
     ensures eight { vec_len ports.new ≡ 8 }
 {
@@ -132,23 +136,24 @@ pub fn dump<F: Files>(
     cycles: u64,
     files: &mut F,
     ports: &mut Ports,
-) -> Result<Prepared, Stop>
+) -> Result<Prepared, CommandStop>
     requires limit { cycles ≤ most_cycles }
     requires eight { vec_len ports.old ≡ 8 }
-    ensures told { F.told files.new ≡ F.told files.old }
-    ensures asked { IsProgramAsked (F.told files.old) setup.now
+    ensures contents { F.contents files.new ≡ F.contents files.old }
+    ensures asked { IsProgramAsked (F.contents files.old) setup.now
         (F.requests files.old) (F.requests files.new) }
     ensures counted { F.faults files.old ≤ F.faults files.new }
-    ensures missing { FindsNone F.looks_first (F.told files.old) setup.now
-        → result ≡ Err Stop.Read }
-    ensures ok { IfOk result (IsPrepared (Ask.Dump setup.now cycles) (F.told files.old)
+    ensures missing { FindsNone F.looks_first (F.contents files.old) setup.now
+        → result ≡ Err CommandStop.Read }
+    ensures ok { IfOk result (IsPrepared (Ask.Dump setup.now cycles) (F.contents files.old)
         (rows_of latched word_at ports.old.items) (rows_of latched word_at ports.new.items)) }
     ensures thread { IfOk result IsThread }
-    ensures stop { IfErr result (IsStop (F.told files.old)
+    ensures stop { IfErr result (IsStop (F.contents files.old)
         (IsAnswerIn (Ask.Dump setup.now cycles) (rows_of latched word_at ports.old.items))
         (F.faults files.old) (F.faults files.new)) }
     ensures kept { IfErr result (λ stop. stop ≢ NoMemory → ports.new ≡ ports.old) }
-    ensures part { OnErr result (IfSome (F.told files.old) (λ told. IsUnrun told setup.now
+    ensures part { OnErr result (IfSome (F.contents files.old) (λ contents. IsUnrun
+        contents setup.now
         (rows_of latched word_at ports.old.items) (rows_of latched word_at ports.new.items))) }
     ensures eight { vec_len ports.new ≡ 8 }
 {
@@ -162,23 +167,24 @@ pub fn phases<F: Files>(
     cycles: u64,
     files: &mut F,
     ports: &mut Ports,
-) -> Result<Prepared, Stop>
+) -> Result<Prepared, CommandStop>
     requires limit { cycles ≤ most_cycles }
     requires eight { vec_len ports.old ≡ 8 }
-    ensures told { F.told files.new ≡ F.told files.old }
-    ensures asked { IsProgramAsked (F.told files.old) setup.now
+    ensures contents { F.contents files.new ≡ F.contents files.old }
+    ensures asked { IsProgramAsked (F.contents files.old) setup.now
         (F.requests files.old) (F.requests files.new) }
     ensures counted { F.faults files.old ≤ F.faults files.new }
-    ensures missing { FindsNone F.looks_first (F.told files.old) setup.now
-        → result ≡ Err Stop.Read }
-    ensures ok { IfOk result (IsPrepared (Ask.Phases setup.now cycles) (F.told files.old)
+    ensures missing { FindsNone F.looks_first (F.contents files.old) setup.now
+        → result ≡ Err CommandStop.Read }
+    ensures ok { IfOk result (IsPrepared (Ask.Phases setup.now cycles) (F.contents files.old)
         (rows_of latched word_at ports.old.items) (rows_of latched word_at ports.new.items)) }
     ensures thread { IfOk result IsThread }
-    ensures stop { IfErr result (IsStop (F.told files.old)
+    ensures stop { IfErr result (IsStop (F.contents files.old)
         (IsAnswerIn (Ask.Phases setup.now cycles) (rows_of latched word_at ports.old.items))
         (F.faults files.old) (F.faults files.new)) }
     ensures kept { IfErr result (λ stop. stop ≢ NoMemory → ports.new ≡ ports.old) }
-    ensures part { OnErr result (IfSome (F.told files.old) (λ told. IsUnrun told setup.now
+    ensures part { OnErr result (IfSome (F.contents files.old) (λ contents. IsUnrun
+        contents setup.now
         (rows_of latched word_at ports.old.items) (rows_of latched word_at ports.new.items))) }
     ensures eight { vec_len ports.new ≡ 8 }
 {

@@ -3,23 +3,23 @@
 ghost use Rattle.std.specs.Prelude.{◌≡◌, ◌≢◌, ◌⊎◌, ◌≤◌, false, Err, IfOk};
 ghost use Rattle.std.specs.Prelude.{IfErr, OnErr, IfSome, vec_len};
 ghost use Rattle.fp_ports.specs.PluggedPorts.{rows_of};
-ghost use Rattle.ask_words.specs.Limits.{IsWithinLimits};
-ghost use Rattle.ask_words.specs.declared.asked.Ask.{Ask};
+ghost use Rattle.command_line.specs.Limits.{IsWithinLimits};
+ghost use Rattle.command_line.specs.declared.asked.Ask.{Ask};
 ghost use Rattle.flexpret_top.specs.declared.ready.Prepared.{Prepared};
 ghost use Rattle.flexpret_top.specs.Command.{IsAnswerIn, UsesNoPort};
 ghost use Rattle.flexpret_top.specs.Command.{LeavesFedInPart, OnlyReads};
 ghost use Rattle.flexpret_top.specs.Requests.{IsAsked, LacksFirst};
 ghost use Rattle.flexpret_top.specs.Prepared.{IsWithoutPort, IsPrepared, IsThread, OnlyReadsFor};
-ghost use Rattle.command_files.specs.Stops.{IsStop, is_difference};
-ghost use Rattle.command_files.specs.declared.stop.Stop.{Stop};
-ghost use Rattle.command_files.specs.declared.stop.Stop.TheVariants.{NoMemory};
+ghost use Rattle.commands.specs.Stops.{IsStop, is_difference};
+ghost use Rattle.commands.specs.declared.stop.CommandStop.{CommandStop};
+ghost use Rattle.commands.specs.declared.stop.CommandStop.TheVariants.{NoMemory};
 
 use crate::file_commands::{bound, calls, image, imported, own_run};
 use crate::machine_commands::{dump, phases, trace};
 use crate::ready::Prepared;
 use crate::view_commands::{check, solo};
-use ask_words::Ask;
-use command_files::Stop;
+use command_line::Ask;
+use commands::CommandStop;
 use fp_io::Files;
 use fp_ports::Ports;
 use std::alloc::Global;
@@ -30,25 +30,27 @@ pub fn prepare<F: Files>(
     ask: &Ask,
     files: &mut F,
     ports: &mut Ports,
-) -> Result<Prepared, Stop>
+) -> Result<Prepared, CommandStop>
     requires limits { IsWithinLimits ask.now }
     requires eight { vec_len ports.old ≡ 8 }
-    ensures told { F.told files.new ≡ F.told files.old }
-    ensures asked { IsAsked ask.now (F.told files.old)
+    ensures contents { F.contents files.new ≡ F.contents files.old }
+    ensures asked { IsAsked ask.now (F.contents files.old)
         (F.requests files.old) (F.requests files.new) }
     ensures counted { F.faults files.old ≤ F.faults files.new }
-    ensures missing { LacksFirst F.looks_first ask.now (F.told files.old) → result ≡ Err Stop.Read }
-    ensures ok { IfOk result (IsPrepared ask.now (F.told files.old)
+    ensures missing { LacksFirst F.looks_first ask.now (F.contents files.old) → result
+        ≡ Err CommandStop.Read }
+    ensures ok { IfOk result (IsPrepared ask.now (F.contents files.old)
         (rows_of latched word_at ports.old.items) (rows_of latched word_at ports.new.items)) }
     ensures thread { IfOk result IsThread }
-    ensures stop { IfErr result (IsStop (F.told files.old)
+    ensures stop { IfErr result (IsStop (F.contents files.old)
         (IsAnswerIn ask.now (rows_of latched word_at ports.old.items))
         (F.faults files.old) (F.faults files.new)) }
     ensures kept { IfErr result (λ stop.
         stop ≢ NoMemory → is_difference stop ≡ false → ports.new ≡ ports.old) }
     ensures others { IfErr result (λ stop.
         stop ≢ NoMemory → OnlyReads ask.now ⊎ (ports.new ≡ ports.old)) }
-    ensures part { OnErr result (IfSome (F.told files.old) (λ told. LeavesFedInPart ask.now told
+    ensures part { OnErr result (IfSome (F.contents files.old) (λ contents. LeavesFedInPart
+        ask.now contents
         (rows_of latched word_at ports.old.items) (rows_of latched word_at ports.new.items))) }
     ensures reads { OnlyReads ask.now →
         rows_of latched word_at ports.new.items ≡ rows_of latched word_at ports.old.items }

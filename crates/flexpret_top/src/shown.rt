@@ -31,12 +31,12 @@ impl Shown for ReadPort<'_> {
         row_of (λ b. (Port-box b).latched b.value) (λ b. (Port-box b).word_at b.value) s.device };
 
     fn word(&mut self, at: u64) -> u32 {
-        word_beside(&mut self.device, self.thread, at)
+        word_at_port(&mut self.device, self.thread, at)
     }
 }
 
 /// The word that a thread with a device at its port reads there in a cycle.
-fn word_beside(device: &mut Option<Box<dyn Port>>, thread: &ThreadSetup, at: u64) -> u32
+fn word_at_port(device: &mut Option<Box<dyn Port>>, thread: &ThreadSetup, at: u64) -> u32
     ensures value { result ≡ shown_at (row_of latched word_at device.old)
         (inputs_of thread.now) thread.now.unplug at }
     ensures row { row_of latched word_at device.new ≡ row_of latched word_at device.old }

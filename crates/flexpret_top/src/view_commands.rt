@@ -4,20 +4,20 @@ ghost use Rattle.std.specs.Prelude.{◌≡◌, ◌≤◌, ◌<◌, false, Err, I
 ghost use Rattle.std.specs.Prelude.{IfErr, vec_len};
 ghost use Rattle.timer_unit.specs.Time.{most_cycles};
 ghost use Rattle.fp_ports.specs.PluggedPorts.{rows_of};
-ghost use Rattle.ask_words.specs.declared.asked.Ask.{Ask};
+ghost use Rattle.command_line.specs.declared.asked.Ask.{Ask};
 ghost use Rattle.flexpret_top.specs.SoloAndCheck.{alone_program};
 ghost use Rattle.flexpret_top.specs.declared.ready.Prepared.{Prepared};
 ghost use Rattle.flexpret_top.specs.Command.{IsAnswerIn};
 ghost use Rattle.flexpret_top.specs.Requests.{IsAsked};
-ghost use Rattle.command_files.specs.Program.{IsProgramAsked};
+ghost use Rattle.commands.specs.Program.{IsProgramAsked};
 ghost use Rattle.flexpret_top.specs.Prepared.{IsPrepared, IsPreparedApart, IsThread, OnlyReadsFor};
-ghost use Rattle.command_files.specs.Stops.{FindsNone, IsStop, IsStopIn, is_difference};
-ghost use Rattle.command_files.specs.declared.stop.Stop.{Stop};
+ghost use Rattle.commands.specs.Stops.{FindsNone, IsStop, IsStopIn, is_difference};
+ghost use Rattle.commands.specs.declared.stop.CommandStop.{CommandStop};
 
 use crate::alone::{compare_alone, load_alone};
 use crate::ready::Prepared;
-use ask_words::Ask;
-use command_files::Stop;
+use command_line::Ask;
+use commands::CommandStop;
 use fp_io::Files;
 use fp_ports::Ports;
 use fp_setup::Name;
@@ -30,21 +30,22 @@ pub fn solo<F: Files>(
     thread: u8,
     cycles: u64,
     files: &mut F,
-) -> Result<Prepared, Stop>
+) -> Result<Prepared, CommandStop>
     requires limit { cycles ≤ most_cycles }
     requires thread { thread < 8 }
-    ensures told { F.told files.new ≡ F.told files.old }
-    ensures asked { IsProgramAsked (F.told files.old) setup.now
+    ensures contents { F.contents files.new ≡ F.contents files.old }
+    ensures asked { IsProgramAsked (F.contents files.old) setup.now
         (F.requests files.old) (F.requests files.new) }
     ensures counted { F.faults files.old ≤ F.faults files.new }
-    ensures missing { FindsNone F.looks_first (F.told files.old) setup.now
-        → result ≡ Err Stop.Read }
+    ensures missing { FindsNone F.looks_first (F.contents files.old) setup.now
+        → result ≡ Err CommandStop.Read }
     ensures ok { IfOk result
-        (IsPreparedApart (Ask.Solo setup.now thread cycles) (F.told files.old)) }
+        (IsPreparedApart (Ask.Solo setup.now thread cycles) (F.contents files.old)) }
     ensures thread { IfOk result IsThread }
     ensures reads { IfOk result OnlyReadsFor }
-    ensures stop { IfErr result (IsStopIn (F.told files.old)
-        (λ told. alone_program told setup.now thread) (F.faults files.old) (F.faults files.new)) }
+    ensures stop { IfErr result (IsStopIn (F.contents files.old)
+        (λ contents. alone_program contents setup.now thread) (F.faults files.old) (F.faults
+        files.new)) }
 {
     match load_alone(alloc, setup, thread, cycles, files) {
         Ok(alone) => Ok(Prepared::Solo(alone)),
@@ -61,22 +62,22 @@ pub fn check<F: Files>(
     trace: &Name,
     files: &mut F,
     ports: &mut Ports,
-) -> Result<Prepared, Stop>
+) -> Result<Prepared, CommandStop>
     requires limit { cycles ≤ most_cycles }
     requires thread { thread < 8 }
     requires eight { vec_len ports.old ≡ 8 }
-    ensures told { F.told files.new ≡ F.told files.old }
-    ensures asked { IsAsked (Ask.Check setup.now thread cycles trace.now) (F.told files.old)
+    ensures contents { F.contents files.new ≡ F.contents files.old }
+    ensures asked { IsAsked (Ask.Check setup.now thread cycles trace.now) (F.contents files.old)
         (F.requests files.old) (F.requests files.new) }
     ensures counted { F.faults files.old ≤ F.faults files.new }
-    ensures missing { FindsNone F.looks_first (F.told files.old) setup.now
-        → result ≡ Err Stop.Read }
+    ensures missing { FindsNone F.looks_first (F.contents files.old) setup.now
+        → result ≡ Err CommandStop.Read }
     ensures ok { IfOk result
-        (IsPrepared (Ask.Check setup.now thread cycles trace.now) (F.told files.old)
+        (IsPrepared (Ask.Check setup.now thread cycles trace.now) (F.contents files.old)
         (rows_of latched word_at ports.old.items) (rows_of latched word_at ports.new.items)) }
     ensures thread { IfOk result IsThread }
     ensures reads { IfOk result OnlyReadsFor }
-    ensures stop { IfErr result (IsStop (F.told files.old)
+    ensures stop { IfErr result (IsStop (F.contents files.old)
         (IsAnswerIn (Ask.Check setup.now thread cycles trace.now)
         (rows_of latched word_at ports.old.items))
         (F.faults files.old) (F.faults files.new)) }

@@ -1,5 +1,5 @@
 //! The program: `flexpret_view turns SETUP --from a --to b` shows the pipeline in each cycle of a
-//! window, as text, for a viewer, or as a picture.
+//! window, a line for each.
 #![tactic(auto)]
 
 ghost use Rattle.std.specs.Prelude.{◌≡◌, vec_len};
@@ -9,10 +9,10 @@ mod options;
 mod progress;
 mod words;
 
-use crate::fault::Fault;
+use crate::fault::ViewFault;
 use crate::progress::ProgressLine;
-use crate::words::{Ask, STANDARD_OUTPUT, WordsNo, read_words};
-use command_files::{Program, Status, Stop, load};
+use crate::words::{ArgumentsNo, Ask, read_words};
+use commands::{CommandStop, Program, Status, load};
 use fp_io::RealFiles;
 use fp_ports::{HeldPort, Ports, THREADS};
 use fp_setup::Name;
@@ -20,16 +20,16 @@ use machine::{Machine, feed_inputs};
 use pipe_view::put_view;
 use std::io::{BufWriter, Write};
 use std::process::ExitCode;
-use std::{env, fs, io};
+use std::{env, io};
 use trace_print::refusal_line;
 
 /// The arguments of the command line. An argument that isn't UTF-8 is a usage error. Unlike those
 /// of `flexpret_cli` they include the program's name, which the parser's texts show.
-fn read_args(rt: HostRuntime) -> Result<Vec<String>, Fault> {
+fn read_args(rt: HostRuntime) -> Result<Vec<String>, ViewFault> {
     match env::args(&rt) {
         Ok(args) => Ok(args.collect(rt.alloc())?),
-        Err(error) if error.kind() == io::ErrorKind::InvalidData => Err(Fault::Usage),
-        Err(_) => Err(Fault::NoMemory),
+        Err(error) if error.kind() == io::ErrorKind::InvalidData => Err(ViewFault::Usage),
+        Err(_) => Err(ViewFault::NoMemory),
     }
 }
 
@@ -51,22 +51,7 @@ fn write_view<W: Write>(
     out.flush()
 }
 
-/// Runs a machine, and writes the requested view to a writer through a buffer.
-fn write_buffered<W: Write + Drop>(
-    rt: HostRuntime,
-    ask: &Ask<'_>,
-    machine: &mut Machine,
-    ports: &mut Ports,
-    to: W,
-) -> io::Result<()>
-    requires start { machine.old.at ≡ 0 }
-    requires eight { vec_len ports.old ≡ 8 }
-{
-    let mut out = BufWriter::new(rt.alloc(), to)?;
-    write_view(rt, ask, machine, ports, &mut out)
-}
-
-/// Runs a machine, and writes the requested view to the requested file.
+/// Runs a machine, and writes the requested view to standard output through a buffer.
 fn write_output(
     rt: HostRuntime,
     ask: &Ask<'_>,
@@ -76,12 +61,8 @@ fn write_output(
     requires start { machine.old.at ≡ 0 }
     requires eight { vec_len ports.old ≡ 8 }
 {
-    if ask.file == STANDARD_OUTPUT {
-        write_buffered(rt, ask, machine, ports, io::writer(&rt))
-    } else {
-        let file = fs::create(&rt, ask.file)?;
-        write_buffered(rt, ask, machine, ports, file)
-    }
+    let mut out = BufWriter::new(rt.alloc(), io::writer(&rt))?;
+    write_view(rt, ask, machine, ports, &mut out)
 }
 
 /// Runs the machine of a program from its start, with its inputs fed to the ports, and writes the
@@ -91,22 +72,22 @@ fn run_program(
     ask: &Ask<'_>,
     program: &Program,
     ports: &mut Ports,
-) -> Result<(), Fault>
+) -> Result<(), ViewFault>
     requires { vec_len ports.old ≡ 8 }
 {
     feed_inputs(&program.setup, ports)?;
     let mut machine = Machine::load(rt.alloc(), &program.setup, &program.image)?;
-    write_output(rt, ask, &mut machine, ports).map_err(Fault::from)
+    write_output(rt, ask, &mut machine, ports).map_err(ViewFault::from)
 }
 
 /// The program of a setup's file.
-fn load_file(rt: HostRuntime, setup: &str) -> Result<Program, Stop> {
+fn load_file(rt: HostRuntime, setup: &str) -> Result<Program, CommandStop> {
     let name = Name::from_str(rt.alloc(), setup)?;
     load(rt.alloc(), &name, &mut RealFiles::new(rt))
 }
 
 /// Writes the requested view, with these devices.
-fn answer_beside(rt: HostRuntime, ask: &Ask<'_>, ports: &mut Ports) -> Result<(), Fault>
+fn answer_with_ports(rt: HostRuntime, ask: &Ask<'_>, ports: &mut Ports) -> Result<(), ViewFault>
     requires { vec_len ports.old ≡ 8 }
 {
     let program = load_file(rt, ask.setup)?;
@@ -115,35 +96,34 @@ fn answer_beside(rt: HostRuntime, ask: &Ask<'_>, ports: &mut Ports) -> Result<()
 
 /// Writes the requested view, with a device at each of the eight ports that shows 0 until it is
 /// fed.
-fn answer(rt: HostRuntime, ask: &Ask<'_>) -> Result<(), Fault> {
+fn answer(rt: HostRuntime, ask: &Ask<'_>) -> Result<(), ViewFault> {
     let alloc = rt.alloc();
     let mut ports: Ports = Vec::new(alloc);
     for _thread in 0..THREADS {
         ports.push(Some(Box::new(alloc, HeldPort::new(alloc))?))?;
     }
-    answer_beside(rt, ask, &mut ports)
+    answer_with_ports(rt, ask, &mut ports)
 }
 
 /// Reports why the arguments are no command, with the parser's text if it has one. If that text is
 /// its help, there is no fault.
-fn report_no(rt: HostRuntime, no: &WordsNo) -> Result<(), Fault> {
+fn report_no(rt: HostRuntime, no: &ArgumentsNo) -> Result<(), ViewFault> {
     match no {
-        WordsNo::Parser(error) => {
+        ArgumentsNo::Parser(error) => {
             let printed = error.print(&rt);
             if error.use_stderr() {
-                return Err(Fault::Reported);
+                return Err(ViewFault::Reported);
             }
             Ok(printed?)
         }
-        WordsNo::Usage => Err(Fault::Usage),
-        WordsNo::EmptyWindow => Err(Fault::EmptyWindow),
-        WordsNo::WidePicture => Err(Fault::WidePicture),
-        WordsNo::NoMemory => Err(Fault::NoMemory),
+        ArgumentsNo::Usage => Err(ViewFault::Usage),
+        ArgumentsNo::EmptyWindow => Err(ViewFault::EmptyWindow),
+        ArgumentsNo::NoMemory => Err(ViewFault::NoMemory),
     }
 }
 
 /// Runs the command of the command line.
-fn run(rt: HostRuntime) -> Result<(), Fault> {
+fn run(rt: HostRuntime) -> Result<(), ViewFault> {
     let words = read_args(rt)?;
     match read_words(rt.alloc(), &words) {
         Ok(ask) => answer(rt, &ask),
@@ -152,10 +132,10 @@ fn run(rt: HostRuntime) -> Result<(), Fault> {
 }
 
 /// Reports a fault: a refusal on standard output, as `flexpret` does, and others on standard error.
-fn report_fault(rt: HostRuntime, fault: &Fault) -> Status {
-    if let Fault::Refused(refusal) = fault {
+fn report_fault(rt: HostRuntime, fault: &ViewFault) -> Status {
+    if let ViewFault::Refused(refusal) = fault {
         if rt.print(refusal_line(refusal).as_str()).is_err() {
-            return Fault::Write.status();
+            return ViewFault::Write.status();
         }
     }
     if let Some(line) = fault.complaint() {

@@ -1,7 +1,7 @@
 //! The commands, arguments and options of the command line.
 
 use clap::builder::ValueParser;
-use clap::{Arg, ArgGroup, Command};
+use clap::{Arg, ArgAction, Command};
 use pipe_view::Window;
 use std::alloc::{AllocError, Global};
 
@@ -16,9 +16,10 @@ const UNTILS: [&str; 2] = [BEFORE, ALL];
 
 /// The text of `--help` after the options.
 const AFTER: &str = "The cycles from `from` on are shown, up to the one before `to`. \
-Without --konata, --vcd and --svg they are shown as text; FILE is `-` for standard output. \
-A picture has at most 2000 cycles. \
-With `--progress before` it is told how far the run is while standard output gets nothing, with \
+With --state, a line ends with a tab and the state at the cycle's start, unless the line before \
+has the same: the modes, and for each thread whether it is asleep, its armed moment in \
+nanoseconds, and the latch and the input of its port. The first line ends with the time of a \
+cycle. `--progress before` reports the progress until the first line is written, \
 `--progress all` to the end of the run.\n\n\
 The program is proved to be safe and to end. Nothing is proved of what it shows; it reads the \
 machine that `flexpret` runs.";
@@ -30,8 +31,6 @@ enum Takes {
     Setup,
     /// A cycle, which is required.
     Cycle,
-    /// The name of the file for a form.
-    File,
     /// Until when progress is shown.
     Until,
 }
@@ -42,7 +41,6 @@ impl Takes {
         match self {
             Takes::Setup => "SETUP",
             Takes::Cycle => "CYCLE",
-            Takes::File => "FILE",
             Takes::Until => "UNTIL",
         }
     }
@@ -56,7 +54,7 @@ impl Takes {
     fn parser(self) -> ValueParser<'static> {
         match self {
             Takes::Cycle => ValueParser::Unsigned(0, Window::MOST),
-            Takes::Setup | Takes::File => ValueParser::String,
+            Takes::Setup => ValueParser::String,
             Takes::Until => ValueParser::Names(&UNTILS),
         }
     }
@@ -73,8 +71,8 @@ struct ArgumentRow {
     help: &'static str,
 }
 
-/// The arguments of `turns`, in the order of the help.
-const TURNS_ARGUMENTS: [ArgumentRow; 7] = [
+/// The arguments of `turns` with a value, in the order of the help.
+const TURNS_ARGUMENTS: [ArgumentRow; 4] = [
     ArgumentRow {
         name: "setup",
         takes: Takes::Setup,
@@ -88,32 +86,14 @@ const TURNS_ARGUMENTS: [ArgumentRow; 7] = [
     ArgumentRow {
         name: "to",
         takes: Takes::Cycle,
-        help: "the cycle behind the last one",
-    },
-    ArgumentRow {
-        name: "konata",
-        takes: Takes::File,
-        help: "writes the log of the Konata viewer",
-    },
-    ArgumentRow {
-        name: "vcd",
-        takes: Takes::File,
-        help: "writes a value change dump, for GTKWave",
-    },
-    ArgumentRow {
-        name: "svg",
-        takes: Takes::File,
-        help: "writes a picture, for a browser",
+        help: "the cycle after the last one",
     },
     ArgumentRow {
         name: "progress",
         takes: Takes::Until,
-        help: "tells on standard error how far a long run is",
+        help: "reports on standard error how far a long run is",
     },
 ];
-
-/// The options for the file of a form: at most one of them is given.
-const FORMS: [&str; 3] = ["konata", "vcd", "svg"];
 
 /// The argument of a row.
 fn argument<'a>(alloc: Global, row: &ArgumentRow) -> Arg<'a> {
@@ -124,14 +104,16 @@ fn argument<'a>(alloc: Global, row: &ArgumentRow) -> Arg<'a> {
         .help(row.help);
     match row.takes {
         Takes::Setup => argument,
-        Takes::Cycle | Takes::File | Takes::Until => argument.long(row.name),
+        Takes::Cycle | Takes::Until => argument.long(row.name),
     }
 }
 
-/// The group of these options, of which at most one is given.
-fn forms_group<'a>(alloc: Global) -> Result<ArgGroup<'a>, AllocError> {
-    let names: &[&'a str] = &FORMS;
-    ArgGroup::new(alloc, "form").args(names)
+/// The option `--state`, which has no value.
+fn state_option<'a>(alloc: Global) -> Arg<'a> {
+    Arg::new(alloc, "state")
+        .long("state")
+        .action(ArgAction::SetTrue)
+        .help("writes also the state at the start of the cycles")
 }
 
 /// The command `turns` without its arguments.
@@ -143,12 +125,11 @@ fn bare_turns<'a>(alloc: Global) -> Command<'a> {
 
 /// The command `turns`.
 fn turns_command<'a>(alloc: Global) -> Result<Command<'a>, AllocError> {
-    let forms = forms_group(alloc)?;
-    let mut turns = bare_turns(alloc).group(forms)?;
+    let mut turns = bare_turns(alloc);
     for row in &TURNS_ARGUMENTS {
         turns = turns.arg(argument(alloc, row))?;
     }
-    Ok(turns)
+    turns.arg(state_option(alloc))
 }
 
 /// The program without its commands.

@@ -11,11 +11,11 @@ use Rattle.std.proofs.lemmas.List.{take_all}
 use Rattle.fp_asm.specs.Pieces.{Piece, name, number, comma, colon, opening, closing, plus, minus}
 use Rattle.fp_asm.specs.First.{Labels, location_of, with_label, with_labels, has_label}
 use Rattle.fp_asm.specs.Second.{after_labels}
-use Rattle.fp_asm.specs.Faults.{IsStopOf}
+use Rattle.fp_asm.specs.Faults.{IsLineStopOf}
 use Rattle.fp_asm.specs.declared.refusal.AsmNo.{AsmNo}
 use Rattle.fp_asm.specs.declared.refusal.AsmNo.TheVariants as no
-use Rattle.fp_asm.specs.declared.refusal.Stop.{Stop}
-use Rattle.fp_asm.specs.declared.refusal.Stop.TheVariants as stop
+use Rattle.fp_asm.specs.declared.refusal.LineStop.{LineStop}
+use Rattle.fp_asm.specs.declared.refusal.LineStop.TheVariants as stop
 
 -- the entries of a map as labels
 abbrev pub seen : List (Bor (List ℕ) × ℕ) → Labels
@@ -68,8 +68,9 @@ unfolding with_labels
 labelled_fault location labels x ps rest c e h = rw (e, h) refl
 
 pub stop_step : (whole : Result (Labels × List Piece) AsmNo) (location : ℕ) (labels : Labels)
-    (x : List ℕ) (ps rest : List Piece) (s : Stop) → whole ≡ with_labels location labels ps →
-    ps ≡ name x ∷ (colon ∷ rest) → IsStopOf (with_label location labels x) s → IsStopOf whole s
+    (x : List ℕ) (ps rest : List Piece) (s : LineStop) → whole ≡ with_labels location labels ps →
+    ps ≡ name x ∷ (colon ∷ rest) → IsLineStopOf (with_label location labels x) s →
+    IsLineStopOf whole s
 stop_step whole location labels x ps rest (stop.Fault code) so e h =
     so ∙ labelled_fault location labels x ps rest code e h
 stop_step whole location labels x ps rest stop.NoMemory so e h = tt

@@ -6,7 +6,7 @@ pub mod LineByLine
 pub mod CommaByComma
 pub mod Filling
 pub mod Checks
-pub mod Ways
+pub mod Offsets
 pub mod LabelByLabel
 pub mod WordByWord
 pub mod TargetByTarget

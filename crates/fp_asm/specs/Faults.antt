@@ -3,8 +3,8 @@ use Rattle.std.specs.Prelude.{◌≡◌, ℕ, Bool, Option, Some, None, Result, 
 use Rattle.fp_asm.specs.declared.refusal.AsmNo.{AsmNo}
 use Rattle.fp_asm.specs.declared.refusal.AsmRefused.{AsmRefused}
 use Rattle.fp_asm.specs.declared.refusal.AsmRefused.TheVariants as refused
-use Rattle.fp_asm.specs.declared.refusal.Stop.{Stop}
-use Rattle.fp_asm.specs.declared.refusal.Stop.TheVariants as stop
+use Rattle.fp_asm.specs.declared.refusal.LineStop.{LineStop}
+use Rattle.fp_asm.specs.declared.refusal.LineStop.TheVariants as stop
 
 -- the next result, if there was no fault
 abbrev pub next : {A B E : Type 0} → Result A E → (A → Result B E) → Result B E
@@ -31,6 +31,6 @@ IsFaultOf defined (refused.Fault line code) = defined ≡ Err (refused.Fault lin
 IsFaultOf defined refused.NoMemory = Unit {0}
 
 -- the cause that stops the code in a line: the line's first fault, or out of memory
-abbrev pub IsStopOf : {A : Type 0} → Result A AsmNo → Stop → Type 0
-IsStopOf defined (stop.Fault code) = defined ≡ Err code
-IsStopOf defined stop.NoMemory = Unit {0}
+abbrev pub IsLineStopOf : {A : Type 0} → Result A AsmNo → LineStop → Type 0
+IsLineStopOf defined (stop.Fault code) = defined ≡ Err code
+IsLineStopOf defined stop.NoMemory = Unit {0}

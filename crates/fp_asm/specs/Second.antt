@@ -44,14 +44,14 @@ fits_word (plain n) = is_within (neg_ℤ (pos (2 ^ 31))) (pos (2 ^ 32 - 1)) n
 fits_word (label x n) = true
 
 -- the offset from a location to an address, modulo 2^32, as a signed number
-abbrev pub way : ℕ → ℕ → ℤ
-way location to = sign_extended 32 ((to + (2 ^ 32 - location)) % 2 ^ 32)
+abbrev pub offset_to : ℕ → ℕ → ℤ
+offset_to location to = sign_extended 32 ((to + (2 ^ 32 - location)) % 2 ^ 32)
 
 -- the offset of a branch or a jump, which must be in a range; its target must be a multiple of four
 unfoldable pub jump : ℤ → ℤ → ℕ → ℕ → Result ℤ AsmNo
 jump low high location to =
-    holds (is_within low high (way location to)) no.OutOfRange
-    (holds (to % 4 == 0) no.Misaligned (Ok (way location to)))
+    holds (is_within low high (offset_to location to)) no.OutOfRange
+    (holds (to % 4 == 0) no.Misaligned (Ok (offset_to location to)))
 
 -- the word of an instruction that names no address
 unfoldable pub plain_word : Plain → Operands → Result ℕ AsmNo

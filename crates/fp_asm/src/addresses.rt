@@ -4,9 +4,9 @@ ghost use Rattle.std.specs.Prelude.{◌≡◌, ◌≤◌, IfErr, OnOk, Ok, not};
 ghost use Rattle.std.specs.List.{list_all};
 ghost use Rattle.fp_asm.specs.First.{is_inside as is_inside_of, addresses, is_taken};
 ghost use Rattle.fp_asm.specs.First.{with_taken, take_addresses as take_addresses_of};
-ghost use Rattle.fp_asm.specs.Faults.{IsStopOf};
+ghost use Rattle.fp_asm.specs.Faults.{IsLineStopOf};
 
-use super::refusal::{AsmNo, Stop};
+use super::refusal::{AsmNo, LineStop};
 use region_guard::{DATA_START, SMALL_SIZE};
 use std::alloc::AllocError;
 use std::collections::BTreeSet;
@@ -72,19 +72,23 @@ fn take(taken: &mut BTreeSet<u32>, location: u32, n: u32) -> Result<(), AllocErr
 /// [`AsmNo::OutsideMemory`] if a word is outside the scratchpads, and then [`AsmNo::Overlap`] if
 /// there is a word at one of the locations; or out of memory.
 #[tactic(auto, unfolding(crate::specs::First::take_addresses))]
-pub(crate) fn take_addresses(taken: &mut BTreeSet<u32>, location: u32, n: u32) -> Result<(), Stop>
+pub(crate) fn take_addresses(
+    taken: &mut BTreeSet<u32>,
+    location: u32,
+    n: u32,
+) -> Result<(), LineStop>
     ensures ok { OnOk result (take_addresses_of taken.old.keys (addresses location n)
         ≡ Ok taken.new.keys) }
     ensures refused { IfErr result
-        (IsStopOf (take_addresses_of taken.old.keys (addresses location n))) }
+        (IsLineStopOf (take_addresses_of taken.old.keys (addresses location n))) }
 {
     if !are_inside(location, n) {
-        return Err(Stop::Fault {
+        return Err(LineStop::Fault {
             code: AsmNo::OutsideMemory,
         });
     }
     if !are_free(taken, location, n) {
-        return Err(Stop::Fault {
+        return Err(LineStop::Fault {
             code: AsmNo::Overlap,
         });
     }

@@ -4,13 +4,13 @@ ghost use Rattle.std.specs.Prelude.{◌≡◌, ◌≤◌, ◌<◌, ◌^◌, IfOk
 ghost use Rattle.std.specs.Prelude.{Ok, option_map, map, length, All};
 ghost use Rattle.fp_asm.specs.First.{placed_size as sized_of, first_line};
 ghost use Rattle.fp_asm.specs.First.{first_pass as first_pass_of};
-ghost use Rattle.fp_asm.specs.Faults.{IsStopOf, IsFaultOf};
+ghost use Rattle.fp_asm.specs.Faults.{IsLineStopOf, IsFaultOf};
 ghost use Rattle.fp_asm.specs.AbstractPieces.{abstract_piece};
 
 use super::addresses::take_addresses;
 use super::labels::{Labels, add_labels};
 use super::pieces::{Piece, pieces};
-use super::refusal::{AsmRefused, Stop};
+use super::refusal::{AsmRefused, LineStop};
 use super::size::{location_after, size};
 use super::statement::statement_after;
 use std::alloc::Global;
@@ -29,11 +29,11 @@ pub(crate) struct First<'a> {
 
 // The number of words that the statement after the labels places, and the location after it.
 #[tactic(auto, unfolding(crate::specs::First::placed_size))]
-fn sized(alloc: Global, location: u32, pieces: &[Piece]) -> Result<Option<(u32, u32)>, Stop>
+fn sized(alloc: Global, location: u32, pieces: &[Piece]) -> Result<Option<(u32, u32)>, LineStop>
     requires { length pieces.now ≤ 64 }
     ensures ok { IfOk result (λ s. sized_of location (map abstract_piece pieces.now) ≡ Ok s) }
     ensures refused { IfErr result
-        (IsStopOf (sized_of location (map abstract_piece pieces.now))) }
+        (IsLineStopOf (sized_of location (map abstract_piece pieces.now))) }
 {
     // A line of labels only places no word.
     if pieces.is_empty() {
@@ -61,12 +61,12 @@ impl<'a> First<'a> {
     }
 
     #[tactic(auto, unfolding(crate::specs::First::first_line, crate::specs::First::placed_by))]
-    fn line(&mut self, alloc: Global, line: &'a [u8]) -> Result<(), Stop>
+    fn line(&mut self, alloc: Global, line: &'a [u8]) -> Result<(), LineStop>
         requires { length line.now < 2 ^ 32 }
         ensures ok { OnOk result (first_line (abstract_first self.old) line.now
             ≡ Ok (abstract_first self.new)) }
         ensures refused { IfErr result
-            (IsStopOf (first_line (abstract_first self.old) line.now)) }
+            (IsLineStopOf (first_line (abstract_first self.old) line.now)) }
     {
         // An empty line has no pieces.
         if line.is_empty() {
@@ -99,8 +99,8 @@ impl<'a> First<'a> {
         for (i, line) in lines.iter().enumerate() {
             match self.line(alloc, *line) {
                 Ok(()) => {}
-                Err(Stop::NoMemory) => return Err(AsmRefused::NoMemory),
-                Err(Stop::Fault { code }) => {
+                Err(LineStop::NoMemory) => return Err(AsmRefused::NoMemory),
+                Err(LineStop::Fault { code }) => {
                     return Err(AsmRefused::Fault {
                         line: i as u32 + 1,
                         code,

@@ -5,26 +5,26 @@ ghost use Rattle.std.specs.Prelude.{IfNone, OnOk, Ok, map, length, drop, false};
 ghost use Rattle.fp_asm.specs.Pieces.{name, colon};
 ghost use Rattle.fp_asm.specs.First.{with_label, with_labels, has_label};
 ghost use Rattle.fp_asm.specs.Second.{after_labels};
-ghost use Rattle.fp_asm.specs.Faults.{IsStopOf};
+ghost use Rattle.fp_asm.specs.Faults.{IsLineStopOf};
 ghost use Rattle.fp_asm.specs.AbstractPieces.{abstract_piece, abstract_labels};
 
 use super::pieces::Piece;
-use super::refusal::{AsmNo, Stop};
+use super::refusal::{AsmNo, LineStop};
 use std::collections::BTreeMap;
 
 /// The locations of labels; their names are slices of the source.
 pub(crate) type Labels<'a> = BTreeMap<&'a [u8], u32>;
 
 #[tactic(auto, using(crate::proofs::LabelByLabel::added))]
-fn add_label<'a>(labels: &mut Labels<'a>, name: &'a [u8], location: u32) -> Result<(), Stop>
+fn add_label<'a>(labels: &mut Labels<'a>, name: &'a [u8], location: u32) -> Result<(), LineStop>
     ensures ok { OnOk result (with_label location (abstract_labels labels.old) name.now
         ≡ Ok (abstract_labels labels.new)) }
     ensures refused { IfErr result
-        (IsStopOf (with_label location (abstract_labels labels.old) name.now)) }
+        (IsLineStopOf (with_label location (abstract_labels labels.old) name.now)) }
 {
     match labels.insert(name, location)? {
         None => Ok(()),
-        Some(_) => Err(Stop::Fault {
+        Some(_) => Err(LineStop::Fault {
             code: AsmNo::DoubleLabel,
         }),
     }
@@ -65,13 +65,13 @@ pub(crate) fn add_labels<'a>(
     labels: &mut Labels<'a>,
     location: u32,
     pieces: &[Piece<'a>],
-) -> Result<usize, Stop>
+) -> Result<usize, LineStop>
     ensures ok { IfOk result (λ n. with_labels location (abstract_labels labels.old)
         (map abstract_piece pieces.now) ≡ Ok
         (abstract_labels labels.new, map abstract_piece (drop n pieces.now))) }
     ensures within { IfOk result (λ n. n ≤ length pieces.now) }
     ensures refused { IfErr result
-        (IsStopOf
+        (IsLineStopOf
         (with_labels location (abstract_labels labels.old) (map abstract_piece pieces.now))) }
 {
     let mut n = 0;

@@ -5,10 +5,10 @@ ghost use Rattle.fp_lex.specs.Tokens.{tokens_of};
 ghost use Rattle.fp_asm.specs.Pieces.{mark as mark_of, piece as piece_of};
 ghost use Rattle.fp_asm.specs.Pieces.{pieces_of, pieces_or_fault};
 ghost use Rattle.fp_asm.specs.Pieces.{is_comma as is_comma_of, commas, operands_of};
-ghost use Rattle.fp_asm.specs.Faults.{IsStopOf};
+ghost use Rattle.fp_asm.specs.Faults.{IsLineStopOf};
 ghost use Rattle.fp_asm.specs.AbstractPieces.{abstract_piece, abstract_operand};
 
-use super::refusal::{AsmNo, Stop};
+use super::refusal::{AsmNo, LineStop};
 use fp_lex::{Kind, LexNo, Token, Tokens, tokens};
 use std::alloc::{AllocError, Global};
 
@@ -62,17 +62,17 @@ fn piece_at<'a>(line: &'a [u8], token: &Token) -> Piece<'a>
 }
 
 #[tactic(auto, unfolding(crate::specs::Pieces::pieces_of))]
-fn lexed(alloc: Global, line: &[u8]) -> Result<Tokens, Stop>
+fn lexed(alloc: Global, line: &[u8]) -> Result<Tokens, LineStop>
     requires { length line.now < 2 ^ 32 }
     ensures pieces { IfOk result (λ ts. pieces_of line.now ≡ Ok (map (piece_of line.now) ts)) }
     ensures spans { IfOk result (All (λ t. (t.start ≤ t.end) × (t.end ≤ length line.now))) }
     ensures few { IfOk result (λ ts. length ts ≤ 64) }
-    ensures refused { IfErr result (IsStopOf (pieces_of line.now)) }
+    ensures refused { IfErr result (IsLineStopOf (pieces_of line.now)) }
 {
     match tokens(alloc, line) {
         Ok(tokens) => Ok(tokens),
-        Err(LexNo::NoMemory) => Err(Stop::NoMemory),
-        Err(_) => Err(Stop::Fault { code: AsmNo::Lex }),
+        Err(LexNo::NoMemory) => Err(LineStop::NoMemory),
+        Err(_) => Err(LineStop::Fault { code: AsmNo::Lex }),
     }
 }
 
@@ -97,12 +97,12 @@ fn pieces_at<'a>(
 /// # Errors
 ///
 /// [`AsmNo::Lex`] if the line isn't a sequence of tokens; or out of memory.
-pub(crate) fn pieces<'a>(alloc: Global, line: &'a [u8]) -> Result<Vec<Piece<'a>>, Stop>
+pub(crate) fn pieces<'a>(alloc: Global, line: &'a [u8]) -> Result<Vec<Piece<'a>>, LineStop>
     requires { length line.now < 2 ^ 32 }
     ensures pieces { IfOk result
         (λ ps. pieces_of line.now ≡ Ok (map abstract_piece ps.items)) }
     ensures few { IfOk result (λ ps. length ps.items ≤ 64) }
-    ensures refused { IfErr result (IsStopOf (pieces_of line.now)) }
+    ensures refused { IfErr result (IsLineStopOf (pieces_of line.now)) }
 {
     let tokens = lexed(alloc, line)?;
     Ok(pieces_at(alloc, line, tokens.as_slice())?)

@@ -57,40 +57,40 @@ pub enum AsmRefused {
 
 /// The cause that stops the work on a line.
 #[derive(Clone, Copy)]
-pub(crate) enum Stop {
+pub(crate) enum LineStop {
     /// The line's first fault.
     Fault { code: AsmNo },
     /// Out of memory.
     NoMemory,
 }
 
-impl From<AsmNo> for Stop {
-    ghost use Rattle.fp_asm.specs.declared.refusal.Stop.{Stop};
+impl From<AsmNo> for LineStop {
+    ghost use Rattle.fp_asm.specs.declared.refusal.LineStop.{LineStop};
 
-    ghost from_gives = { λ code stop. stop ≡ Stop.Fault code };
+    ghost from_gives = { λ code stop. stop ≡ LineStop.Fault code };
 
-    fn from(code: AsmNo) -> Stop {
-        Stop::Fault { code }
+    fn from(code: AsmNo) -> LineStop {
+        LineStop::Fault { code }
     }
 }
 
-impl<T: Drop> From<AllocFailed<T>> for Stop {
-    ghost use Rattle.fp_asm.specs.declared.refusal.Stop.{Stop};
+impl<T: Drop> From<AllocFailed<T>> for LineStop {
+    ghost use Rattle.fp_asm.specs.declared.refusal.LineStop.{LineStop};
 
-    ghost from_gives = { λ _ stop. stop ≡ Stop.NoMemory };
+    ghost from_gives = { λ _ stop. stop ≡ LineStop.NoMemory };
 
-    fn from(_failed: AllocFailed<T>) -> Stop {
-        Stop::NoMemory
+    fn from(_failed: AllocFailed<T>) -> LineStop {
+        LineStop::NoMemory
     }
 }
 
-impl From<AllocError> for Stop {
-    ghost use Rattle.fp_asm.specs.declared.refusal.Stop.{Stop};
+impl From<AllocError> for LineStop {
+    ghost use Rattle.fp_asm.specs.declared.refusal.LineStop.{LineStop};
 
-    ghost from_gives = { λ _ stop. stop ≡ Stop.NoMemory };
+    ghost from_gives = { λ _ stop. stop ≡ LineStop.NoMemory };
 
-    fn from(_failed: AllocError) -> Stop {
-        Stop::NoMemory
+    fn from(_failed: AllocError) -> LineStop {
+        LineStop::NoMemory
     }
 }
 

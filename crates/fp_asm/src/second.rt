@@ -6,14 +6,14 @@ ghost use Rattle.fp_asm.specs.Second.{second_line, second_pass as second_pass_of
 ghost use Rattle.fp_asm.specs.Second.{written_by, after_labels};
 ghost use Rattle.fp_asm.specs.Statements.{statement_of, statement_check};
 ghost use Rattle.fp_asm.specs.Operands.{HasRegisters};
-ghost use Rattle.fp_asm.specs.Faults.{IsStopOf, IsFaultOf};
+ghost use Rattle.fp_asm.specs.Faults.{IsLineStopOf, IsFaultOf};
 ghost use Rattle.fp_asm.specs.AbstractPieces.{abstract_piece, abstract_labels};
 ghost use Rattle.fp_asm.specs.AbstractOperands.{abstract_statement, abstract_operands};
 
 use super::labels::{Labels, skip_labels};
 use super::memory::write_words;
 use super::pieces::pieces;
-use super::refusal::{AsmRefused, Stop};
+use super::refusal::{AsmRefused, LineStop};
 use super::size::location_after;
 use super::statement::{Statement, statement_after};
 use super::words::words_of;
@@ -50,7 +50,7 @@ impl Second {
         alloc: Global,
         labels: &Labels,
         statement: &Option<Statement>,
-    ) -> Result<(), Stop>
+    ) -> Result<(), LineStop>
         requires registers { IfSome statement.now
             (λ s. HasRegisters (abstract_operands s.operands)) }
         requires checked { IfSome statement.now (λ s. statement_check
@@ -62,7 +62,7 @@ impl Second {
             (option_map abstract_statement statement.now) ≡ Ok (abstract_second self.new)) }
         ensures aligned { OnOk result (self.new.location % 4 ≡ 0) }
         ensures refused { IfErr result
-            (IsStopOf (written_by (abstract_labels labels.now) (abstract_second self.old)
+            (IsLineStopOf (written_by (abstract_labels labels.now) (abstract_second self.old)
             (option_map abstract_statement statement.now))) }
     {
         if let Some(statement) = statement {
@@ -74,7 +74,7 @@ impl Second {
     }
 
     #[tactic(auto, unfolding(crate::specs::Second::second_line))]
-    fn line(&mut self, alloc: Global, labels: &Labels, line: &[u8]) -> Result<(), Stop>
+    fn line(&mut self, alloc: Global, labels: &Labels, line: &[u8]) -> Result<(), LineStop>
         requires short { length line.now < 2 ^ 32 }
         requires aligned { self.old.location % 4 ≡ 0 }
         ensures ok { OnOk result
@@ -82,7 +82,7 @@ impl Second {
             line.now ≡ Ok (abstract_second self.new)) }
         ensures aligned { OnOk result (self.new.location % 4 ≡ 0) }
         ensures refused { IfErr result
-            (IsStopOf
+            (IsLineStopOf
             (second_line (abstract_labels labels.now) (abstract_second self.old) line.now)) }
     {
         // An empty line has no pieces.
@@ -126,8 +126,8 @@ impl Second {
         for (i, line) in lines.iter().enumerate() {
             match self.line(alloc, labels, *line) {
                 Ok(()) => {}
-                Err(Stop::NoMemory) => return Err(AsmRefused::NoMemory),
-                Err(Stop::Fault { code }) => {
+                Err(LineStop::NoMemory) => return Err(AsmRefused::NoMemory),
+                Err(LineStop::Fault { code }) => {
                     return Err(AsmRefused::Fault {
                         line: i as u32 + 1,
                         code,

@@ -7,7 +7,7 @@ ghost use Rattle.fp_asm.specs.Statements.{is_words as is_words_of, some_targets 
 ghost use Rattle.fp_asm.specs.Statements.{statement_in as statement_in_of};
 ghost use Rattle.fp_asm.specs.Statements.{aligned_to as aligned_to_of, statement_check};
 ghost use Rattle.fp_asm.specs.Statements.{statement_named, statement_of};
-ghost use Rattle.fp_asm.specs.Faults.{IsStopOf};
+ghost use Rattle.fp_asm.specs.Faults.{IsLineStopOf};
 ghost use Rattle.fp_asm.specs.AbstractPieces.{abstract_piece, abstract_operand, abstract_mnemonic};
 ghost use Rattle.fp_asm.specs.AbstractOperands.{abstract_target, abstract_operands};
 ghost use Rattle.fp_asm.specs.AbstractOperands.{abstract_statement};
@@ -15,7 +15,7 @@ ghost use Rattle.fp_asm.specs.AbstractOperands.{abstract_statement};
 use super::forms::{fill_all, nothing_given, targets};
 use super::operands::{Operands, Target};
 use super::pieces::{Piece, operands};
-use super::refusal::{AsmNo, Stop};
+use super::refusal::{AsmNo, LineStop};
 use super::table::{Makes, Row, mnemonic};
 use region_guard::SMALL_SIZE;
 use std::alloc::{AllocError, Global};
@@ -127,7 +127,7 @@ fn check(statement: &Statement) -> Result<(), AsmNo>
 
 // The statement from a name and the pieces after it.
 #[tactic(auto, unfolding(crate::specs::Statements::statement_named))]
-fn named<'a>(alloc: Global, text: &[u8], pieces: &[Piece<'a>]) -> Result<Statement<'a>, Stop>
+fn named<'a>(alloc: Global, text: &[u8], pieces: &[Piece<'a>]) -> Result<Statement<'a>, LineStop>
     ensures statement { IfOk result
         (λ s. statement_named text.now (map abstract_piece pieces.now)
         ≡ Ok (abstract_statement s)) }
@@ -135,16 +135,16 @@ fn named<'a>(alloc: Global, text: &[u8], pieces: &[Piece<'a>]) -> Result<Stateme
     ensures checked { IfOk result (λ s. statement_check (abstract_statement s) ≡ Ok tt) }
     ensures few { IfOk result (λ s. length s.values.items ≤ length pieces.now + 1) }
     ensures refused { IfErr result
-        (IsStopOf (statement_named text.now (map abstract_piece pieces.now))) }
+        (IsLineStopOf (statement_named text.now (map abstract_piece pieces.now))) }
 {
     let Some(row) = mnemonic(text) else {
-        return Err(Stop::Fault {
+        return Err(LineStop::Fault {
             code: AsmNo::UnknownName,
         });
     };
     let operands = operands(alloc, pieces)?;
     let Some(statement) = statement_in(alloc, row, operands.as_slice())? else {
-        return Err(Stop::Fault {
+        return Err(LineStop::Fault {
             code: AsmNo::Operands,
         });
     };
@@ -162,7 +162,7 @@ fn named<'a>(alloc: Global, text: &[u8], pieces: &[Piece<'a>]) -> Result<Stateme
 pub(crate) fn statement_after<'a>(
     alloc: Global,
     pieces: &[Piece<'a>],
-) -> Result<Option<Statement<'a>>, Stop>
+) -> Result<Option<Statement<'a>>, LineStop>
     ensures statement { IfOk result
         (λ s. statement_of (map abstract_piece pieces.now)
         ≡ Ok (option_map abstract_statement s)) }
@@ -171,7 +171,7 @@ pub(crate) fn statement_after<'a>(
     ensures checked { IfOk result
         (λ s. IfSome s (λ s. statement_check (abstract_statement s) ≡ Ok tt)) }
     ensures few { IfOk result (λ s. IfSome s (λ s. length s.values.items ≤ length pieces.now)) }
-    ensures refused { IfErr result (IsStopOf (statement_of (map abstract_piece pieces.now))) }
+    ensures refused { IfErr result (IsLineStopOf (statement_of (map abstract_piece pieces.now))) }
 {
     match pieces {
         [] => Ok(None),
@@ -179,7 +179,7 @@ pub(crate) fn statement_after<'a>(
             let statement = named(alloc, *text, others)?;
             Ok(Some(statement))
         }
-        _ => Err(Stop::Fault {
+        _ => Err(LineStop::Fault {
             code: AsmNo::Operands,
         }),
     }

@@ -4,14 +4,14 @@ ghost use Rattle.std.specs.Prelude.{◌≡◌, IfOk, IfErr, Ok, map, pos, neg_�
 ghost use Rattle.fp_asm.specs.First.{location_of as location_of_label};
 ghost use Rattle.fp_asm.specs.Second.{target_word, all_resolved, fits_word as fits_word_of};
 ghost use Rattle.std.specs.List.{list_all};
-ghost use Rattle.fp_asm.specs.Faults.{IsStopOf};
+ghost use Rattle.fp_asm.specs.Faults.{IsLineStopOf};
 ghost use Rattle.fp_asm.specs.AbstractPieces.{abstract_labels};
 ghost use Rattle.fp_asm.specs.AbstractOperands.{abstract_target};
 
 use super::instruction::low_word;
 use super::labels::Labels;
 use super::operands::Target;
-use super::refusal::{AsmNo, Stop};
+use super::refusal::{AsmNo, LineStop};
 use std::alloc::Global;
 
 // The location of a label.
@@ -49,11 +49,11 @@ pub(crate) fn resolve_all(
     alloc: Global,
     labels: &Labels,
     targets: &[Target],
-) -> Result<Vec<u32>, Stop>
+) -> Result<Vec<u32>, LineStop>
     ensures words { IfOk result (λ words. all_resolved (abstract_labels labels.now)
         (map abstract_target targets.now) ≡ Ok words.items) }
     ensures refused { IfErr result
-        (IsStopOf
+        (IsLineStopOf
         (all_resolved (abstract_labels labels.now) (map abstract_target targets.now))) }
 {
     let mut list = Vec::with_capacity(alloc, targets.len())?;

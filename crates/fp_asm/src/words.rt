@@ -7,11 +7,11 @@ ghost use Rattle.rv_decode.specs.Range.{IsEven};
 ghost use Rattle.rv_decode.specs.declared.instruction.Ins.TheVariants as made;
 ghost use Rattle.fp_asm.specs.Operands.{HasRegisters};
 ghost use Rattle.fp_asm.specs.Statements.{statement_check};
-ghost use Rattle.fp_asm.specs.Second.{way as way_of, jump as jump_of};
+ghost use Rattle.fp_asm.specs.Second.{offset_to as offset_of, jump as jump_of};
 ghost use Rattle.fp_asm.specs.Second.{statement_words as words_of_statement};
 ghost use Rattle.fp_asm.specs.Second.{one_word as one_word_of, plain_word, branch_word};
 ghost use Rattle.fp_asm.specs.Second.{jal_word, address_words, value_words};
-ghost use Rattle.fp_asm.specs.Faults.{IsStopOf};
+ghost use Rattle.fp_asm.specs.Faults.{IsLineStopOf};
 ghost use Rattle.fp_asm.specs.AbstractPieces.{abstract_labels};
 ghost use Rattle.fp_asm.specs.AbstractOperands.{abstract_target, abstract_operands};
 ghost use Rattle.fp_asm.specs.AbstractOperands.{abstract_statement};
@@ -19,7 +19,7 @@ ghost use Rattle.fp_asm.specs.AbstractOperands.{abstract_statement};
 use super::instruction::{halves, instruction, load_words, low_word};
 use super::labels::Labels;
 use super::operands::{Operands, Target};
-use super::refusal::{AsmNo, Stop};
+use super::refusal::{AsmNo, LineStop};
 use super::size::size;
 use super::statement::Statement;
 use super::table::{Makes, Plain};
@@ -27,22 +27,22 @@ use super::targets::{all_fit, fits_word, resolve, resolve_all};
 use rv_decode::{BranchOp, Ins, encode};
 use std::alloc::Global;
 
-fn way(location: u32, to: u32) -> i32
-    ensures { result ≡ way_of location to }
+fn offset_to(location: u32, to: u32) -> i32
+    ensures { result ≡ offset_of location to }
 {
     to.wrapping_sub(location).cast_signed()
 }
 
 // The offset from a location to an address. It must be in a range, and the address a multiple of
 // four.
-#[tactic(auto, using(crate::proofs::Ways::way_even), unfolding(crate::specs::Second::jump))]
+#[tactic(auto, using(crate::proofs::Offsets::offset_even), unfolding(crate::specs::Second::jump))]
 fn jump(low: i32, high: i32, location: u32, to: u32) -> Result<i32, AsmNo>
     requires { location % 4 ≡ 0 }
-    ensures way { result ≡ jump_of low high location to }
+    ensures offset_to { result ≡ jump_of low high location to }
     ensures within { IfOk result (λ off. (low ≤ℤ off) × (off ≤ℤ high)) }
     ensures even { IfOk result IsEven }
 {
-    let off = way(location, to);
+    let off = offset_to(location, to);
     if off < low || off > high {
         return Err(AsmNo::OutOfRange);
     }
@@ -96,17 +96,17 @@ fn jal(labels: &Labels, location: u32, operands: &Operands) -> Result<u32, AsmNo
 }
 
 #[tactic(auto, unfolding(crate::specs::Second::address_words))]
-fn address(alloc: Global, labels: &Labels, operands: &Operands) -> Result<Vec<u32>, Stop>
+fn address(alloc: Global, labels: &Labels, operands: &Operands) -> Result<Vec<u32>, LineStop>
     requires { HasRegisters (abstract_operands operands.now) }
     ensures words { IfOk result (λ words. address_words (abstract_labels labels.now)
         (abstract_operands operands.now) ≡ Ok words.items) }
     ensures refused { IfErr result
-        (IsStopOf
+        (IsLineStopOf
         (address_words (abstract_labels labels.now) (abstract_operands operands.now))) }
 {
     let v = resolve(labels, &operands.target)?;
     if !fits_word(&operands.target) {
-        return Err(Stop::Fault {
+        return Err(LineStop::Fault {
             code: AsmNo::OutOfRange,
         });
     }
@@ -114,16 +114,16 @@ fn address(alloc: Global, labels: &Labels, operands: &Operands) -> Result<Vec<u3
 }
 
 #[tactic(auto, unfolding(crate::specs::Second::value_words))]
-fn values(alloc: Global, labels: &Labels, targets: &[Target]) -> Result<Vec<u32>, Stop>
+fn values(alloc: Global, labels: &Labels, targets: &[Target]) -> Result<Vec<u32>, LineStop>
     ensures words { IfOk result (λ words. value_words (abstract_labels labels.now)
         (map abstract_target targets.now) ≡ Ok words.items) }
     ensures refused { IfErr result
-        (IsStopOf
+        (IsLineStopOf
         (value_words (abstract_labels labels.now) (map abstract_target targets.now))) }
 {
     let words = resolve_all(alloc, labels, targets)?;
     if !all_fit(targets) {
-        return Err(Stop::Fault {
+        return Err(LineStop::Fault {
             code: AsmNo::OutOfRange,
         });
     }
@@ -131,9 +131,9 @@ fn values(alloc: Global, labels: &Labels, targets: &[Target]) -> Result<Vec<u32>
 }
 
 // A word as a list, if there is one.
-fn one_word(alloc: Global, word: Result<u32, AsmNo>) -> Result<Vec<u32>, Stop>
+fn one_word(alloc: Global, word: Result<u32, AsmNo>) -> Result<Vec<u32>, LineStop>
     ensures words { IfOk result (λ words. one_word_of word ≡ Ok words.items) }
-    ensures refused { IfErr result (IsStopOf (one_word_of word)) }
+    ensures refused { IfErr result (IsLineStopOf (one_word_of word)) }
 {
     let word = word?;
     Ok(vec![in alloc; word]?)
@@ -151,7 +151,7 @@ pub(crate) fn words_of(
     labels: &Labels,
     location: u32,
     statement: &Statement,
-) -> Result<Vec<u32>, Stop>
+) -> Result<Vec<u32>, LineStop>
     requires registers { HasRegisters (abstract_operands statement.now.operands) }
     requires checked { statement_check (abstract_statement statement.now) ≡ Ok tt }
     requires few { length statement.now.values.items ≤ 64 }
@@ -160,7 +160,7 @@ pub(crate) fn words_of(
         (λ words. words_of_statement (abstract_labels labels.now) location
         (abstract_statement statement.now) ≡ Ok words.items) }
     ensures refused { IfErr result
-        (IsStopOf (words_of_statement (abstract_labels labels.now) location
+        (IsLineStopOf (words_of_statement (abstract_labels labels.now) location
         (abstract_statement statement.now))) }
 {
     let operands = &statement.operands;

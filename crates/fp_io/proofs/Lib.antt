@@ -1,4 +1,4 @@
-pub mod Fronts
+pub mod Prefixes
 pub mod ListedCalls
 pub mod NamedBytes
 pub mod Pieces

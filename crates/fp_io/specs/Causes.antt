@@ -14,5 +14,5 @@ abbrev pub risen_if : Bool → ℕ → ℕ
 risen_if fault count = if fault then risen count else count
 
 -- a count rose in a call: it is greater after the call than before it, or it is saturated
-abbrev pub Rose : ℕ → ℕ → Type 0
-Rose before after = risen before ≤ after
+abbrev pub HasRisen : ℕ → ℕ → Type 0
+HasRisen before after = risen before ≤ after

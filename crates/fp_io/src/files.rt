@@ -2,8 +2,8 @@
 
 ghost use Rattle.std.specs.Prelude.{◌≡◌, ℕ, ◌+◌, ◌-◌, ◌^◌, ◌<◌, ◌≤◌};
 ghost use Rattle.std.specs.Prelude.{List, [], ◌∷◌, Option, None, IfOk, vec_len};
-ghost use Rattle.fp_io.specs.Causes.{Rose};
-ghost use Rattle.fp_io.specs.Content.{Asks, FileMap, Fetched, Lacks, Request};
+ghost use Rattle.fp_io.specs.Causes.{HasRisen};
+ghost use Rattle.fp_io.specs.Content.{HasRequested, FileMap, Fetched, IsMissing, Request};
 
 use std::alloc::Global;
 use thiserror::Error;
@@ -25,7 +25,7 @@ pub enum FetchFault {
 /// A map from names to the bytes of files, and a count of the faults met in reading them.
 pub trait Files {
     // The map, if the object's contract exposes it.
-    ghost told: { Self → Option FileMap };
+    ghost contents: { Self → Option FileMap };
 
     // The number of read faults so far. It never decreases, and saturates at 2^64 - 1.
     ghost faults: { Self → ℕ };
@@ -50,15 +50,19 @@ pub trait Files {
     /// fault was counted then, and the map, if exposed, doesn't lack the file.
     fn fetch(&mut self, alloc: Global, name: &str, most: usize) -> Result<Vec<u8>, FetchFault>
         requires { most < 2 ^ 64 - 1 }
-        ensures request { Asks (requests self.old) (requests self.new) ((name.now, most) ∷ []) }
-        ensures stays { told self.new ≡ told self.old }
+        ensures request { HasRequested (requests self.old) (requests self.new) ((
+          name.now,
+          most,
+        ) ∷ []) }
+        ensures stays { contents self.new ≡ contents self.old }
         ensures counted { faults self.old ≤ faults self.new }
         ensures within { IfOk result (λ bytes. vec_len bytes ≤ most + 1) }
-        ensures bytes { IfOk result (λ bytes. Fetched (told self.old) name.now most bytes.items) }
+        ensures bytes { IfOk result (λ bytes. Fetched (contents self.old) name.now most
+            bytes.items) }
         ensures missing { result ≡ Err FetchFault.Missing
-            → Lacks (told self.old) name.now × (faults self.new ≡ faults self.old) }
+            → IsMissing (contents self.old) name.now × (faults self.new ≡ faults self.old) }
         ensures failed { result ≡ Err FetchFault.Failed
-            → Rose (faults self.old) (faults self.new) }
+            → HasRisen (faults self.old) (faults self.new) }
         ensures out_of_memory { looks_first → result ≡ Err FetchFault.NoMemory
-            → (faults self.new ≡ faults self.old) × ¬ (Lacks (told self.old) name.now) };
+            → (faults self.new ≡ faults self.old) × ¬ (IsMissing (contents self.old) name.now) };
 }

@@ -2,8 +2,8 @@
 
 ghost use Rattle.std.specs.Prelude.{◌≡◌, ◌≢◌, [], ◌++◌, ◌+◌, ◌<◌, ◌≤◌, None, length, OnOk, OnErr};
 ghost use Rattle.std.specs.Io.KnownBytes.{Appends};
-ghost use Rattle.fp_io.specs.Causes.{Rose};
-ghost use Rattle.fp_io.specs.Content.{AppendsFront};
+ghost use Rattle.fp_io.specs.Causes.{HasRisen};
+ghost use Rattle.fp_io.specs.Content.{AppendsPrefix};
 ghost use Rattle.fp_io.specs.Gathered.{followed, gathered_with};
 
 use crate::sink::{PutFailed, Sink};
@@ -62,9 +62,9 @@ impl<K: Sink + Drop> Gathered<K> {
     /// bytes, and the others are lost.
     pub fn flush(&mut self) -> Result<(), PutFailed>
         ensures ok { OnOk result (Appends (K.taken self.old.0) (K.taken self.new.0) self.old.1) }
-        ensures err { OnErr result (AppendsFront (K.taken self.old.0) (K.taken self.new.0)
+        ensures err { OnErr result (AppendsPrefix (K.taken self.old.0) (K.taken self.new.0)
             self.old.1) }
-        ensures failed { OnErr result (Rose (K.faults self.old.0) (K.faults self.new.0)) }
+        ensures failed { OnErr result (HasRisen (K.faults self.old.0) (K.faults self.new.0)) }
         ensures counted { K.faults self.old.0 ≤ K.faults self.new.0 }
         ensures some { OnErr result (self.old.1 ≢ []) }
         ensures nothing { self.old.1 ≡ [] → self.new.0 ≡ self.old.0 }
@@ -89,9 +89,9 @@ impl<K: Sink + Drop> Gathered<K> {
     fn hand_on(&mut self, bytes: &[u8]) -> Result<(), PutFailed>
         ensures ok { OnOk result (Appends (followed (K.taken self.old.0) self.old.1)
             (followed (K.taken self.new.0) self.new.1) bytes.now) }
-        ensures err { OnErr result (AppendsFront (K.taken self.old.0) (K.taken self.new.0)
+        ensures err { OnErr result (AppendsPrefix (K.taken self.old.0) (K.taken self.new.0)
             (self.old.1 ++ bytes.now)) }
-        ensures failed { OnErr result (Rose (K.faults self.old.0) (K.faults self.new.0)) }
+        ensures failed { OnErr result (HasRisen (K.faults self.old.0) (K.faults self.new.0)) }
         ensures counted { K.faults self.old.0 ≤ K.faults self.new.0 }
         ensures gathered { self.new.1 ≡ [] }
     {
@@ -109,9 +109,9 @@ impl<K: Sink + Drop> Sink for Gathered<K> {
     fn put(&mut self, bytes: &[u8]) -> Result<(), PutFailed>
         ensures ok { OnOk result (Appends (followed (K.taken self.old.0) self.old.1)
             (followed (K.taken self.new.0) self.new.1) bytes.now) }
-        ensures err { OnErr result (AppendsFront (K.taken self.old.0) (K.taken self.new.0)
+        ensures err { OnErr result (AppendsPrefix (K.taken self.old.0) (K.taken self.new.0)
             (self.old.1 ++ bytes.now)) }
-        ensures failed { OnErr result (Rose (K.faults self.old.0) (K.faults self.new.0)) }
+        ensures failed { OnErr result (HasRisen (K.faults self.old.0) (K.faults self.new.0)) }
         ensures counted { K.faults self.old.0 ≤ K.faults self.new.0 }
         ensures full { OnErr result (8192 < length self.old.1 + length bytes.now) }
         ensures room { length self.old.1 + length bytes.now ≤ 8192 → self.new.0 ≡ self.old.0 }

@@ -115,7 +115,7 @@ impl MemFiles {
 }
 
 impl Files for MemFiles {
-    ghost told = { λ m. Some (λ name. map.get m.named name) };
+    ghost contents = { λ m. Some (λ name. map.get m.named name) };
 
     ghost looks_first = { Unit {0} };
 
@@ -138,7 +138,7 @@ impl Files for MemFiles {
         let Some(whole) = self.file(name) else {
             return Err(FetchFault::Missing);
         };
-        let front = whole.len().min(most + 1);
-        Vec::from_slice(alloc, &whole[..front]).map_err(|_| FetchFault::NoMemory)
+        let prefix = whole.len().min(most + 1);
+        Vec::from_slice(alloc, &whole[..prefix]).map_err(|_| FetchFault::NoMemory)
     }
 }

@@ -4,7 +4,7 @@ ghost use Rattle.std.specs.Prelude.{◌≡◌, ◌≢◌, [], ◌+◌, ◌-◌, 
 ghost use Rattle.std.specs.Prelude.{take, is_err, IfOk, IfSome, OnOk, OnErr, vec_len};
 ghost use Rattle.std.specs.Io.KnownBytes.{Appends};
 ghost use Rattle.fp_io.specs.Causes.{risen_if};
-ghost use Rattle.fp_io.specs.Content.{AppendsFront};
+ghost use Rattle.fp_io.specs.Content.{AppendsPrefix};
 ghost use Rattle.fp_io.specs.Real.{has_failed};
 
 use crate::files::{FetchFault, Files};
@@ -48,7 +48,7 @@ impl<R: rt::Files + Drop> RealFiles<R> {
 }
 
 impl<R: rt::Files + Drop> Files for RealFiles<R> {
-    ghost told = { λ _. None };
+    ghost contents = { λ _. None };
 
     ghost looks_first = { Unit {0} };
 
@@ -159,7 +159,7 @@ fn read_up_to<F: Read>(alloc: Global, file: &mut F, most: usize) -> Result<Vec<u
 /// Writes all bytes. A write that takes no bytes is an error, since no piece is empty.
 fn write_whole<W: Write>(to: &mut W, bytes: &[u8]) -> Result<(), PutFailed>
     ensures ok { OnOk result (Appends (W.contents to.old) (W.contents to.new) bytes.now) }
-    ensures err { OnErr result (AppendsFront (W.contents to.old) (W.contents to.new) bytes.now) }
+    ensures err { OnErr result (AppendsPrefix (W.contents to.old) (W.contents to.new) bytes.now) }
     ensures some { OnErr result (bytes.now ≢ []) }
 {
     let mut at = 0;

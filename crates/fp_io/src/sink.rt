@@ -2,8 +2,8 @@
 
 ghost use Rattle.std.specs.Prelude.{◌≡◌, ℕ, ◌≤◌, List, Option, OnOk, OnErr};
 ghost use Rattle.std.specs.Io.KnownBytes.{Appends};
-ghost use Rattle.fp_io.specs.Causes.{Rose};
-ghost use Rattle.fp_io.specs.Content.{AppendsFront};
+ghost use Rattle.fp_io.specs.Causes.{HasRisen};
+ghost use Rattle.fp_io.specs.Content.{AppendsPrefix};
 
 use thiserror::Error;
 
@@ -29,6 +29,6 @@ pub trait Sink {
     fn put(&mut self, bytes: &[u8]) -> Result<(), PutFailed>
         ensures counted { faults self.old ≤ faults self.new }
         ensures ok { OnOk result (Appends (taken self.old) (taken self.new) bytes.now) }
-        ensures err { OnErr result (AppendsFront (taken self.old) (taken self.new) bytes.now) }
-        ensures failed { OnErr result (Rose (faults self.old) (faults self.new)) };
+        ensures err { OnErr result (AppendsPrefix (taken self.old) (taken self.new) bytes.now) }
+        ensures failed { OnErr result (HasRisen (faults self.old) (faults self.new)) };
 }

@@ -20,7 +20,7 @@ use Rattle.fp_setup.specs.Keys.{Kind, Integer, Fresh, Address, AddressFrom, Byte
 use Rattle.fp_setup.specs.Keys.{One, Eight, Truth, TruthWithout, Inputs, Threads}
 use Rattle.fp_setup.specs.Keys.{Loops, Key, names, top_keys, thread_keys, loop_keys}
 use Rattle.fp_setup.specs.Checks.{Check, typed, is_in, integer_fault, integer_check}
-use Rattle.fp_setup.specs.Checks.{taken_fault, fresh_check, bytes_fault, bytes_check}
+use Rattle.fp_setup.specs.Checks.{taken_fault, not_taken_check, bytes_fault, bytes_check}
 use Rattle.fp_setup.specs.Checks.{word_fault, word_check, truth_check, permit_check}
 use Rattle.fp_setup.specs.Checks.{each_fault, eight_fault, eight_check, is_input, input_check}
 use Rattle.fp_setup.specs.Checks.{inputs_from, inputs_fault, few_fault, list_check}
@@ -68,10 +68,10 @@ integer-at_place range place d good =
     typed-at_place place (as_integer d) (integer_fault range place) good
     (λ z. integer_fault-at_place range place z good)
 
-fresh-at_place : (range : Range) (taken : List ℕ) (place : Place) (d : Data) → IsPlace place →
-    FoundAtPlace (fresh_check range taken place d)
-unfolding fresh_check
-fresh-at_place range taken place d good =
+not_taken-at_place : (range : Range) (taken : List ℕ) (place : Place) (d : Data) → IsPlace place →
+    FoundAtPlace (not_taken_check range taken place d)
+unfolding not_taken_check
+not_taken-at_place range taken place d good =
     first-at_place (integer_check range place d)
     (taken_fault taken place (number d)) (integer-at_place range place d good)
     (if-at_place (list_any (λ k. k == number d) taken) (fault no.DoubleThread place) None good tt)
@@ -151,7 +151,7 @@ value-at_place : (around : Around) (kind : Kind) (place : Place) (d : Data) → 
 value-at_place around (Integer low high) place d good =
     integer-at_place (integers low high) place d good
 value-at_place around (Fresh low high) place d good =
-    fresh-at_place (integers low high) around.ids place d good
+    not_taken-at_place (integers low high) around.ids place d good
 value-at_place around Address place d good = integer-at_place (addresses 0 around.size) place d good
 value-at_place around (AddressFrom key) place d good = integer-at_place _ place d good
 value-at_place around (Bytes low high) place d good = bytes-at_place low high place d good

@@ -34,9 +34,10 @@ table_of-other (r ∷ rows) row k other = grind (arith, table_of-other rows row 
 -- it names its own thread, if none before does
 table_of-own : (rows : List Members) (row : Members) (k : ℕ) → k ≡ id_at row →
     list_any (λ n. n == k) (map id_at rows) ≡ false → table_of (rows ++ row ∷ []) k ≡ Some row
-table_of-own [] row k own fresh = grind (arith, nat_tests, own)
-table_of-own (r ∷ rows) row k own fresh =
-    let (here, more) = or_parts (id_at r == k) (list_any (λ n. n == k) (map id_at rows)) fresh in
+table_of-own [] row k own not_taken = grind (arith, nat_tests, own)
+table_of-own (r ∷ rows) row k own not_taken =
+    let (here, more) = or_parts (id_at r == k) (list_any (λ n. n == k) (map id_at rows))
+    not_taken in
     rw here (table_of-own rows row k own more)
 
 pub thread_at : (k : ℕ) → k < 8 → get_or the_threads k 0 ≡ k
@@ -61,13 +62,14 @@ put_at : {X : Type 0} (say : Members → X) (other : X) (rows : List Members) (r
     k < 8 → (k ≡ id_at row) ⊎ (k ≢ id_at row) →
     get_or (map (said_of say other (rows ++ row ∷ [])) the_threads) k d
     ≡ get_or (set (map (said_of say other rows) the_threads) (id_at row) (say row)) k d
-put_at say other rows row k d small fresh h (inl own) =
+put_at say other rows row k d small not_taken h (inl own) =
     let P : ℕ → Type 0 = λ n. list_any (λ m. m == n) (map id_at rows) ≡ false in
     said_at say other (rows ++ row ∷ []) k d h
-    ∙ (ap (λ o. option_map_or say o other) (table_of-own rows row k own (subst P (sym own) fresh))
+    ∙ (ap (λ o. option_map_or say o other) (table_of-own rows row k own (subst P
+    (sym own) not_taken))
     ∙ sym
     (get_or-set_at (map (said_of say other rows) the_threads) (id_at row) k (say row) d own small))
-put_at say other rows row k d small fresh h (inr apart) =
+put_at say other rows row k d small not_taken h (inr apart) =
     said_at say other (rows ++ row ∷ []) k d h
     ∙ (ap (λ o. option_map_or say o other) (table_of-other rows row k apart)
     ∙ (sym (said_at say other rows k d h) ∙ sym
@@ -78,22 +80,22 @@ put : {X : Type 0} (say : Members → X) (other : X) (rows : List Members) (row 
     → id_at row < 8 → list_any (λ n. n == id_at row) (map id_at rows) ≡ false
     → map (said_of say other (rows ++ row ∷ [])) the_threads
     ≡ set (map (said_of say other rows) the_threads) (id_at row) (say row)
-put say other rows row small fresh =
+put say other rows row small not_taken =
     same_lists _ _
     (sym (length-set (map (said_of say other rows) the_threads) (id_at row) (say row)))
-    (λ k d h. put_at say other rows row k d small fresh h (cases_eq k (id_at row)))
+    (λ k d h. put_at say other rows row k d small not_taken h (cases_eq k (id_at row)))
 
 pub threads_of-put : (rows : List Members) (row : Members) → id_at row < 8 →
     list_any (λ n. n == id_at row) (map id_at rows) ≡ false →
     threads_of (rows ++ row ∷ []) ≡ set (threads_of rows) (id_at row) (thread_setup row)
 unfolding threads_of
-threads_of-put rows row small fresh = put thread_setup default_thread rows row small fresh
+threads_of-put rows row small not_taken = put thread_setup default_thread rows row small not_taken
 
 pub modes_of-put : (rows : List Members) (row : Members) → id_at row < 8 →
     list_any (λ n. n == id_at row) (map id_at rows) ≡ false →
     modes_of (rows ++ row ∷ []) ≡ set (modes_of rows) (id_at row) (mode_at row)
 unfolding modes_of
-modes_of-put rows row small fresh = put mode_at unnamed_mode rows row small fresh
+modes_of-put rows row small not_taken = put mode_at unnamed_mode rows row small not_taken
 
 -- the tables of a list, and one more of them
 abbrev pub tables : List Value → List Members
@@ -143,21 +145,21 @@ found-more size found ids items i x n room inside is same good before =
 pub modes-more : (rows after : List Members) (r : Members) (old new : List ℕ) (n m : ℕ) →
     after ≡ rows ++ r ∷ [] → n ≡ id_at r → m ≡ mode_at r → n < 8 → list_any (λ k. k == n)
     (map id_at rows) ≡ false → old ≡ modes_of rows → new ≡ set old n m → new ≡ modes_of after
-modes-more rows after r old new n m more id mode small fresh before is =
+modes-more rows after r old new n m more id mode small not_taken before is =
     let Fresh : ℕ → Type 0 = λ k. list_any (λ l. l == k) (map id_at rows) ≡ false in
     let Small : ℕ → Type 0 = λ k. k < 8 in
     is ∙ (rw (before, id, mode, more)
-    (sym (modes_of-put rows r (subst Small id small) (subst Fresh id fresh))))
+    (sym (modes_of-put rows r (subst Small id small) (subst Fresh id not_taken))))
 
 pub threads-more : (rows after : List Members) (r : Members) (old new : List ThreadSetup) (n : ℕ)
     (t : ThreadSetup) → after ≡ rows ++ r ∷ [] → n ≡ id_at r → t ≡ thread_setup r → n < 8 →
     list_any (λ k. k == n) (map id_at rows) ≡ false → old ≡ threads_of rows → new ≡ set old n t →
     new ≡ threads_of after
-threads-more rows after r old new n t more id thread small fresh before is =
+threads-more rows after r old new n t more id thread small not_taken before is =
     let Fresh : ℕ → Type 0 = λ k. list_any (λ l. l == k) (map id_at rows) ≡ false in
     let Small : ℕ → Type 0 = λ k. k < 8 in
     is ∙ (rw (before, id, thread, more)
-    (sym (threads_of-put rows r (subst Small id small) (subst Fresh id fresh))))
+    (sym (threads_of-put rows r (subst Small id small) (subst Fresh id not_taken))))
 
 -- modes are below 4
 pub few-more : (old new : List ℕ) (n m : ℕ) → m < 4 → list_all (λ k. nat_lt k 4) old ≡ true →

@@ -39,8 +39,8 @@ abbrev pub taken_fault : List ℕ → Place → ℕ → Option Fault
 taken_fault taken place n =
     if list_any (λ k. k == n) taken then fault no.DoubleThread place else None
 
-unfoldable pub fresh_check : Range → List ℕ → Check
-fresh_check range taken place d =
+unfoldable pub not_taken_check : Range → List ℕ → Check
+not_taken_check range taken place d =
     first (integer_check range place d) (taken_fault taken place (number d))
 
 -- a text of so many bytes

@@ -15,7 +15,7 @@ use Rattle.fp_setup.specs.Keys.{Kind, Integer, Fresh, Address, AddressFrom, Byte
 use Rattle.fp_setup.specs.Keys.{One, Eight, Truth, TruthWithout, Inputs, Threads}
 use Rattle.fp_setup.specs.Keys.{Loops, Key, top_keys, thread_keys, loop_keys, names}
 use Rattle.fp_setup.specs.Values.{members, number_at, truth_at}
-use Rattle.fp_setup.specs.Checks.{Check, integer_check, fresh_check, bytes_check, word_check}
+use Rattle.fp_setup.specs.Checks.{Check, integer_check, not_taken_check, bytes_check, word_check}
 use Rattle.fp_setup.specs.Checks.{truth_check, permit_check, eight_check, inputs_fault, list_check}
 
 -- the context of a value: the bytes of each scratchpad, the table that holds the value, and the ids
@@ -34,7 +34,7 @@ addresses low size = record { low = low; high = size - 4; step = 4 }
 -- the check of a value of a kind, except for the tables of threads and loops
 abbrev pub value_check : Around → Kind → Check
 value_check around (Integer low high) = integer_check (integers low high)
-value_check around (Fresh low high) = fresh_check (integers low high) around.ids
+value_check around (Fresh low high) = not_taken_check (integers low high) around.ids
 value_check around Address = integer_check (addresses 0 around.size)
 value_check around (AddressFrom key) =
     integer_check (addresses (number_at key around.table) around.size)

@@ -4,7 +4,7 @@ use Rattle.std.specs.Prelude.{Option, Some, None, if◌then◌else◌, codes}
 use Rattle.std.specs.Str.{bytes_eq}
 use Rattle.slot_table.specs.Frame.{disabled_slot, is_slot, soft_slot}
 use Rattle.slot_table.specs.Table.{is_table}
-use Rattle.region_guard.specs.Regions.{is_owner, read_only_region, shared_region}
+use Rattle.region_guard.specs.Regions.{is_owner_nibble, read_only_region, shared_region}
 use Rattle.region_guard.specs.RegionsWord.{is_regions}
 use Rattle.fp_setup.specs.declared.vocabulary.Words.{Words}
 use Rattle.fp_setup.specs.declared.vocabulary.Words.TheVariants.{Slots, Owners, Modes}
@@ -44,7 +44,7 @@ number_of words text = number_in (entries words) text
 -- whether a number is that of some text of a list
 abbrev pub is_value : Words → ℕ → Bool
 is_value Slots n = is_slot n
-is_value Owners n = is_owner n
+is_value Owners n = is_owner_nibble n
 is_value Modes n = nat_lt n 4
 
 -- whether the register of these numbers accepts a word; it accepts every word of eight modes

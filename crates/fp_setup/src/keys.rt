@@ -11,7 +11,7 @@ ghost use Rattle.slot_table.specs.Nibbles.{nibbles};
 ghost use Rattle.std.specs.List.{list_all, list_any};
 ghost use Rattle.fp_setup.specs.Vocabulary.{is_value, is_word};
 ghost use Rattle.fp_setup.specs.Values.{elements_at, number, number_at, text_at, truth_at};
-ghost use Rattle.fp_setup.specs.Checks.{bytes_check, eight_check, fresh_check, integer_check};
+ghost use Rattle.fp_setup.specs.Checks.{bytes_check, eight_check, not_taken_check, integer_check};
 ghost use Rattle.fp_setup.specs.Checks.{is_in, permit_check, truth_check, word_check};
 ghost use Rattle.fp_setup.specs.FaultOrder.{has_other_key, key_fault, unknown_fault};
 ghost use Rattle.fp_setup.specs.SetupOfTables.{number_of_name, nibble_word};
@@ -21,7 +21,7 @@ use crate::bounds::Range;
 use crate::file_name::Name;
 use crate::nibble_list::eight;
 use crate::refusal::{Fault, Place, SetupNo, SetupRefused};
-use crate::values::{fresh, integer, name, permit, truth_value, word};
+use crate::values::{integer, name, not_taken, permit, truth_value, word};
 use crate::vocabulary::Words;
 use std::alloc::Global;
 use toml::{Table, Value};
@@ -206,14 +206,14 @@ pub(crate) fn needed_fresh(
     requires step { 0 < range.step }
     requires small { range.high < 256 }
     ensures read { IsRead result
-        (key_fault (fresh_check range taken.now) true place
+        (key_fault (not_taken_check range taken.now) true place
         (get_member key.now (table_view table.now)))
         (number_at key.now (table_view table.now)) }
     ensures within { IfOk result (λ n. is_in range n ≡ true) }
-    ensures fresh { IfOk result (λ n. list_any (λ k. k == n) taken.now ≡ false) }
+    ensures not_taken { IfOk result (λ n. list_any (λ k. k == n) taken.now ≡ false) }
 {
     match member(table, key) {
-        Some(value) => fresh(value, range, taken, place),
+        Some(value) => not_taken(value, range, taken, place),
         None => Err(Fault::new(SetupNo::MissingKey, place)),
     }
 }

@@ -108,7 +108,7 @@ fn thread_table(
         (thread_table_fault size ids.now row (table_view table.now))
         (row_of (table_view table.now)) }
     ensures id { IfOk result (λ r. r.id < 8) }
-    ensures fresh { IfOk result (λ r. list_any (λ k. k == r.id) ids.now ≡ false) }
+    ensures not_taken { IfOk result (λ r. list_any (λ k. k == r.id) ids.now ≡ false) }
     ensures mode { IfOk result (λ r. r.mode < 4) }
     ensures rules { IfOk result (λ r. IsThread r.thread) }
     ensures inside { IfOk result (λ r. r.thread.entry < size) }
@@ -153,7 +153,7 @@ fn thread_in(
         (thread_fault size ids.now row (as_table (view value.now)))
         (row_of (members (view value.now))) }
     ensures id { IfOk result (λ r. r.id < 8) }
-    ensures fresh { IfOk result (λ r. list_any (λ k. k == r.id) ids.now ≡ false) }
+    ensures not_taken { IfOk result (λ r. list_any (λ k. k == r.id) ids.now ≡ false) }
     ensures mode { IfOk result (λ r. r.mode < 4) }
     ensures rules { IfOk result (λ r. IsThread r.thread) }
     ensures inside { IfOk result (λ r. r.thread.entry < size) }

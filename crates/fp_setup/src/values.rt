@@ -4,7 +4,7 @@ ghost use Rattle.std.specs.Prelude.{◌≡◌, ◌<◌, ◌≤◌, ◌==◌, len
 ghost use Rattle.std.specs.Prelude.{false, IfOk, true, map, option_map};
 ghost use Rattle.std.specs.List.{list_any};
 ghost use Rattle.toml.specs.View.{view};
-ghost use Rattle.fp_setup.specs.Checks.{bytes_check, fresh_check, integer_check};
+ghost use Rattle.fp_setup.specs.Checks.{bytes_check, not_taken_check, integer_check};
 ghost use Rattle.fp_setup.specs.Checks.{word_check, truth_check, permit_check, is_in};
 ghost use Rattle.fp_setup.specs.Values.{as_list, number, text, truth};
 ghost use Rattle.fp_setup.specs.SetupOfTables.{number_of_name};
@@ -48,15 +48,20 @@ pub(crate) fn integer(value: &Value, range: Range, place: Place) -> Result<u32, 
 }
 
 /// An integer of a range that isn't among those that are taken.
-#[tactic(auto, unfolding(crate::specs::Checks::fresh_check))]
-pub(crate) fn fresh(value: &Value, range: Range, taken: &[u8], place: Place) -> Result<u8, Fault>
+#[tactic(auto, unfolding(crate::specs::Checks::not_taken_check))]
+pub(crate) fn not_taken(
+    value: &Value,
+    range: Range,
+    taken: &[u8],
+    place: Place,
+) -> Result<u8, Fault>
     requires step { 0 < range.step }
     requires small { range.high < 256 }
     ensures read { IsRead result
-        (fresh_check range taken.now place (view value.now))
+        (not_taken_check range taken.now place (view value.now))
         (number (view value.now)) }
     ensures within { IfOk result (λ n. is_in range n ≡ true) }
-    ensures fresh { IfOk result (λ n. list_any (λ k. k == n) taken.now ≡ false) }
+    ensures not_taken { IfOk result (λ n. list_any (λ k. k == n) taken.now ≡ false) }
 {
     let number = integer(value, range, place)? as u8;
     if taken.contains(&number) {

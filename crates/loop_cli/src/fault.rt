@@ -1,14 +1,12 @@
 //! Why a run ended before its trace.
 
-use command_files::{Status, Stop};
+use commands::CommandStop;
 use fp_io::PutFailed;
+use loop_command_line::ListNo;
+use loop_commands::LoopFault;
 use loop_runs::LoopStop;
 use std::alloc::{AllocError, AllocFailed};
 use trace_print::Refusal;
-
-/// The line for a list of plants with a fault.
-const PLANTS_MESSAGE: &str = "loop_cli: PLANTS has other lines than `THREAD body|motor STEPS`, \
-    `THREAD table|recorded WORD ..` and `THREAD pipe`, or two of a thread, or two pipes";
 
 /// The exit status if the plant at the pipe ended the run.
 const PLANT_STATUS: u8 = 10;
@@ -16,20 +14,8 @@ const PLANT_STATUS: u8 = 10;
 /// Why a run ended before its trace.
 #[derive(Clone, Copy)]
 pub enum Fault {
-    /// Usage error: the arguments give no run.
-    Usage,
-    /// A line of the list of plants gives no plant.
-    Plants,
-    /// The setup has a fault.
-    Setup,
-    /// The image has a fault.
-    Image,
-    /// A file is missing, or could not be read.
-    Read,
-    /// The trace could not be written.
-    Write,
-    /// Out of memory.
-    NoMemory,
+    /// A fault of the arguments, the files, the trace or memory.
+    Run(LoopFault),
     /// The plant at the pipe reads no line, or writes none.
     PlantEnded,
     /// The plant at the pipe responded with no word.
@@ -41,66 +27,96 @@ impl Fault {
     /// [`PLANT_STATUS`] for a plant at the pipe.
     pub fn status(&self) -> u8 {
         match self {
-            Fault::Usage | Fault::Plants => Status::Usage.number(),
-            Fault::Setup => Status::Setup.number(),
-            Fault::Image => Status::Image.number(),
-            Fault::Read => Status::Read.number(),
-            Fault::Write => Status::Write.number(),
-            Fault::NoMemory => Status::NoMemory.number(),
+            Fault::Run(fault) => fault.status().number(),
             Fault::PlantEnded | Fault::NoWord => PLANT_STATUS,
         }
     }
 
-    /// The line for standard error.
+    /// The number of the line of the list that has a fault.
+    pub fn line(&self) -> Option<u64> {
+        match self {
+            Fault::Run(LoopFault::Listed(ListNo::Line { number })) => Some(*number),
+            _ => None,
+        }
+    }
+
+    /// The line for standard error, without the place of a line.
     pub fn message(&self) -> &'static str {
         match self {
-            Fault::Usage => "loop_cli: usage: loop_cli SETUP PLANTS THREAD EVERY CYCLES",
-            Fault::Plants => PLANTS_MESSAGE,
-            Fault::Setup => "loop_cli: the setup has a fault; `flexpret run` names it",
-            Fault::Image => "loop_cli: the image has a fault; `flexpret run` names it",
-            Fault::Read => "loop_cli: a file could not be read",
-            Fault::Write => "loop_cli: the trace could not be written",
-            Fault::NoMemory => "loop_cli: out of memory",
+            Fault::Run(fault) => message_of(fault),
             Fault::PlantEnded => "loop_cli: the plant at the pipe ended before the run",
             Fault::NoWord => "loop_cli: the plant at the pipe answered no word of 32 bits",
         }
     }
 }
 
-impl From<Stop> for Fault {
-    fn from(stop: Stop) -> Fault {
-        match stop {
-            Stop::Refused(Refusal::Image { .. }) => Fault::Image,
-            Stop::Refused(_) => Fault::Setup,
-            Stop::Read | Stop::Differs { .. } => Fault::Read,
-            Stop::NoMemory => Fault::NoMemory,
+/// The line for standard error, for a fault of the arguments, the files, the trace or memory.
+fn message_of(fault: &LoopFault) -> &'static str {
+    match fault {
+        LoopFault::Usage => {
+            "loop_cli: usage: loop_cli SETUP --plants FILE --thread i --every n --cycles n"
         }
+        LoopFault::Listed(_) => "loop_cli: the list of plants has more than 64 megabytes",
+        LoopFault::Stopped(CommandStop::Refused(Refusal::Image { .. })) => {
+            "loop_cli: the image has a fault; `flexpret run` names it"
+        }
+        LoopFault::Stopped(CommandStop::Refused(_)) => {
+            "loop_cli: the setup has a fault; `flexpret run` names it"
+        }
+        LoopFault::Stopped(CommandStop::Read | CommandStop::Differs { .. }) => {
+            "loop_cli: a file could not be read"
+        }
+        LoopFault::Stopped(CommandStop::NoMemory) => "loop_cli: out of memory",
+        LoopFault::Write => "loop_cli: the trace could not be written",
+    }
+}
+
+impl From<LoopFault> for Fault {
+    fn from(fault: LoopFault) -> Fault {
+        Fault::Run(fault)
     }
 }
 
 impl From<LoopStop> for Fault {
+    ghost use Rattle.std.specs.Prelude.{◌≡◌};
+    ghost use Rattle.loop_cli.specs.Endings.{of_run};
+
+    ghost from_gives = { λ stop fault. fault ≡ of_run stop };
+
     fn from(stop: LoopStop) -> Fault {
         match stop {
-            LoopStop::NoMemory => Fault::NoMemory,
-            LoopStop::PutFailed => Fault::Write,
+            LoopStop::NoMemory => Fault::Run(LoopFault::Stopped(CommandStop::NoMemory)),
+            LoopStop::PutFailed => Fault::Run(LoopFault::Write),
         }
     }
 }
 
 impl From<PutFailed> for Fault {
     fn from(_error: PutFailed) -> Fault {
-        Fault::Write
+        Fault::Run(LoopFault::Write)
     }
 }
 
 impl From<AllocError> for Fault {
+    ghost use Rattle.std.specs.Prelude.{◌≡◌};
+    ghost use Rattle.loop_commands.specs.Faults.{no_memory};
+    ghost use Rattle.loop_cli.specs.declared.fault.Fault.TheVariants.{Run};
+
+    ghost from_gives = { λ _ fault. fault ≡ Run no_memory };
+
     fn from(_error: AllocError) -> Fault {
-        Fault::NoMemory
+        Fault::Run(LoopFault::Stopped(CommandStop::NoMemory))
     }
 }
 
 impl<T: Drop> From<AllocFailed<T>> for Fault {
-    fn from(_error: AllocFailed<T>) -> Fault {
-        Fault::NoMemory
+    ghost use Rattle.std.specs.Prelude.{◌≡◌};
+    ghost use Rattle.loop_commands.specs.Faults.{no_memory};
+    ghost use Rattle.loop_cli.specs.declared.fault.Fault.TheVariants.{Run};
+
+    ghost from_gives = { λ _ fault. fault ≡ Run no_memory };
+
+    fn from(_failed: AllocFailed<T>) -> Fault {
+        Fault::Run(LoopFault::Stopped(CommandStop::NoMemory))
     }
 }

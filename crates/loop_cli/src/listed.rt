@@ -1,156 +1,102 @@
-//! The list of plants: one line each, with its thread, its kind and its numbers.
+//! A run in closed loops with the plants of a list.
 
-ghost use Rattle.std.specs.Prelude.{◌≡◌, ◌<◌, IfOk, IfSome, OnOk, length, vec_len};
+ghost use Rattle.std.specs.Prelude.{◌≡◌, ◌⊎◌, ◌≤◌, ℕ, ◌^◌, ◌/◌, IfErr, IfOk, OnErr, OnOk};
+ghost use Rattle.std.specs.Prelude.{vec_len};
+ghost use Rattle.fp_io.specs.Causes.{HasRisen};
+ghost use Rattle.fp_io.specs.Content.{AppendsPrefix};
+ghost use Rattle.fp_ports.specs.PluggedPorts.{rows_of};
+ghost use Rattle.setup_model.specs.Start.{start};
+ghost use Rattle.loop_runs.specs.Looping.{HasLooped};
+ghost use Rattle.loop_runs.specs.Plants.{response_at, responses_of};
+ghost use Rattle.closed_laws.specs.ClosedTraces.{loop_trace};
+ghost use Rattle.closed_runs.specs.ClosedRuns.{WritesLoops, machine_with};
+ghost use Rattle.loop_command_line.specs.Arguments.{IsWithinLimits};
+ghost use Rattle.example_plants.specs.Known.{known_response};
+ghost use Rattle.example_plants.specs.ListedPlants.{listed_responses};
+ghost use Rattle.loop_commands.specs.Faults.{no_memory};
+ghost use Rattle.loop_cli.specs.Endings.{of_stop};
+ghost use Rattle.loop_commands.specs.declared.fault.LoopFault.TheVariants.{Write};
 
-use crate::fault::Fault;
-use command_files::fetch;
-use fp_io::Files;
-use fp_ports::THREADS;
-use fp_setup::Name;
+use closed_runs::run_setup_loops;
+use commands::CommandStop;
+use example_plants::{ListedPlant, plants_of_list};
+use fp_io::Sink;
+use fp_ports::Ports;
+use loop_commands::{LoopFault, LoopRun};
+use loop_runs::{LoopStop, Plants};
+use machine::Machine;
 use std::alloc::Global;
-use std::str::SplitWhitespace;
 
-/// The most bytes of a list.
-const MOST_BYTES: usize = 67_108_864;
-
-/// A plant of the list.
+/// A machine and its plants after a run.
 #[derive(Drop)]
-pub enum Listed {
-    /// A heated body; its load begins in this step.
-    Body(u32),
-    /// A motor; its load begins in this step.
-    Motor(u32),
-    /// A table.
-    Table(Vec<u32>),
-    /// Recorded words.
-    Recorded(Vec<u32>),
-    /// A plant in another process, by standard output and standard input.
-    Pipe,
+pub struct Ran {
+    /// The machine.
+    pub machine: Machine,
+    /// The plants of the eight threads.
+    pub plants: Plants<ListedPlant>,
 }
 
-/// Reads the plants of the eight threads that a file lists. Empty lines, and lines that begin with
-/// `#` and a blank, are skipped.
+/// The fault of a run that stopped.
+fn fault_of(stop: LoopStop) -> LoopFault
+    ensures { result ≡ of_stop stop }
+{
+    match stop {
+        LoopStop::NoMemory => LoopFault::Stopped(CommandStop::NoMemory),
+        LoopStop::PutFailed => LoopFault::Write,
+    }
+}
+
+/// Runs a program with the plants of its list, each at its thread, and puts the lines of the thread
+/// that the arguments ask for. A thread without a plant, or with one at the pipe, has the inputs of
+/// the setup.
+///
+/// Returns machine and plants. They and the ports are then those of the run after its cycles.
 ///
 /// # Errors
 ///
-/// `Plants` for a line that gives no plant, a second plant of a thread, or a file that isn't text;
-/// `Read`; `NoMemory`.
-pub fn read_plants<F: Files>(
+/// Out of memory, or a fault of the sink was counted in this call. A prefix of the text was put.
+pub fn run_listed<K: Sink>(
     alloc: Global,
-    name: &Name,
-    files: &mut F,
-) -> Result<Vec<Option<Listed>>, Fault>
-    ensures { IfOk result (λ plants. vec_len plants ≡ 8) }
+    run: LoopRun,
+    ports: &mut Ports,
+    out: &mut K,
+) -> Result<Ran, LoopFault>
+    requires limits { IsWithinLimits run.ask }
+    requires plants { vec_len run.plants ≡ 8 }
+    requires eight { vec_len ports.old ≡ 8 }
+    ensures put { OnOk result (WritesLoops (machine_with run.program.setup run.program.image
+        (rows_of latched word_at ports.old.items)) (response_at (listed_responses run.plants.items))
+        run.ask.every run.ask.thread run.ask.cycles (K.taken out.old) (K.taken out.new)) }
+    ensures looped { IfOk result (λ ran. (n : ℕ) → run.ask.cycles ≤ n → n ≤ 2 ^ 64
+        → HasLooped (listed_responses run.plants.items)
+        (responses_of known_response ran.plants.items) run.ask.every
+        (start run.program.setup run.program.image (rows_of latched word_at ports.old.items) n) n
+        (run.ask.cycles / run.ask.every) 8 run.ask.cycles run.ask.thread ran.machine
+        (rows_of latched word_at ports.new.items) (K.taken out.old) (K.taken out.new)) }
+    ensures at { IfOk result (λ ran. ran.machine.at ≡ run.ask.cycles) }
+    ensures stopped { OnErr result (AppendsPrefix (K.taken out.old) (K.taken out.new) (loop_trace
+        (machine_with run.program.setup run.program.image (rows_of latched word_at ports.old.items))
+        (response_at (listed_responses run.plants.items)) run.ask.every run.ask.thread
+        run.ask.cycles)) }
+    ensures fault { IfErr result (λ fault. (fault ≡ no_memory)
+        ⊎ ((fault ≡ Write) × HasRisen (K.faults out.old) (K.faults out.new))) }
+    ensures counted { K.faults out.old ≤ K.faults out.new }
+    ensures eight { vec_len ports.new ≡ 8 }
 {
-    let bytes = fetch(alloc, name, MOST_BYTES, files)?;
-    let Ok(text) = std::str::from_utf8(&bytes) else {
-        return Err(Fault::Plants);
-    };
-    let mut plants = Vec::new(alloc);
-    for _thread in 0..THREADS {
-        plants.push(None)?;
-    }
-    add_lines(alloc, text, &mut plants)?;
-    Ok(plants)
-}
-
-/// The thread whose plant is at the pipe, if one is.
-///
-/// # Errors
-///
-/// `Plants` for two.
-pub fn pipe_thread(plants: &[Option<Listed>]) -> Result<Option<u8>, Fault>
-    requires { length plants.now ≡ 8 }
-    ensures { IfOk result (λ pipe. IfSome pipe (λ thread. thread < 8)) }
-{
-    let mut pipe = None;
-    for thread in 0..THREADS {
-        if matches!(&plants[thread as usize], Some(Listed::Pipe)) {
-            if pipe.is_some() {
-                return Err(Fault::Plants);
-            }
-            pipe = Some(thread);
-        }
-    }
-    Ok(pipe)
-}
-
-/// Assigns the plant of each line to its thread.
-fn add_lines(alloc: Global, text: &str, plants: &mut Vec<Option<Listed>>) -> Result<(), Fault>
-    requires { vec_len plants.old ≡ 8 }
-    ensures { OnOk result (vec_len plants.new ≡ 8) }
-{
-    for line in text.lines() {
-        let mut words = line.split_whitespace();
-        match words.next() {
-            None | Some("#") => {}
-            Some(thread) => {
-                let thread = parsed_thread(thread)? as usize;
-                if plants[thread].is_some() {
-                    return Err(Fault::Plants);
-                }
-                plants[thread] = Some(plant_of(alloc, words)?);
-            }
-        }
-    }
-    Ok(())
-}
-
-/// The plant of a line, from the words after its thread.
-fn plant_of(alloc: Global, mut words: SplitWhitespace<'_>) -> Result<Listed, Fault> {
-    match words.next() {
-        Some("body") => Ok(Listed::Body(last_number(words)?)),
-        Some("motor") => Ok(Listed::Motor(last_number(words)?)),
-        Some("table") => Ok(Listed::Table(parsed_words(alloc, words)?)),
-        Some("recorded") => Ok(Listed::Recorded(parsed_words(alloc, words)?)),
-        Some("pipe") => pipe_of(words),
-        _ => Err(Fault::Plants),
-    }
-}
-
-/// The words of a table or a recording.
-fn parsed_words(alloc: Global, words: SplitWhitespace<'_>) -> Result<Vec<u32>, Fault> {
-    let mut all = Vec::new(alloc);
-    for word in words {
-        all.push(number(Some(word))?)?;
-    }
-    Ok(all)
-}
-
-/// The pipe of a line that ends with its kind.
-fn pipe_of(mut words: SplitWhitespace<'_>) -> Result<Listed, Fault> {
-    match words.next() {
-        None => Ok(Listed::Pipe),
-        Some(_) => Err(Fault::Plants),
-    }
-}
-
-/// A thread's number.
-fn parsed_thread(text: &str) -> Result<u8, Fault>
-    ensures { IfOk result (λ thread. thread < 8) }
-{
-    match text.parse::<u8>() {
-        Ok(thread) if thread < THREADS => Ok(thread),
-        _ => Err(Fault::Plants),
-    }
-}
-
-/// The number that ends a line.
-fn last_number(mut words: SplitWhitespace<'_>) -> Result<u32, Fault> {
-    let number = number(words.next())?;
-    match words.next() {
-        None => Ok(number),
-        Some(_) => Err(Fault::Plants),
-    }
-}
-
-/// A decimal number.
-fn number(text: Option<&str>) -> Result<u32, Fault> {
-    match text {
-        Some(text) => match text.parse::<u32>() {
-            Ok(number) => Ok(number),
-            Err(_) => Err(Fault::Plants),
-        },
-        None => Err(Fault::Plants),
+    let mut plants = plants_of_list(alloc, run.plants)?;
+    let ran = run_setup_loops(
+        alloc,
+        &run.program.setup,
+        &run.program.image,
+        ports,
+        &mut plants,
+        run.ask.thread,
+        run.ask.every,
+        run.ask.cycles,
+        out,
+    );
+    match ran {
+        Ok(machine) => Ok(Ran { machine, plants }),
+        Err(stop) => Err(fault_of(stop)),
     }
 }

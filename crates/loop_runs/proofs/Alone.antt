@@ -2,10 +2,10 @@
 use Rattle.std.proofs.Common.{ℕ, List, arith}
 use Rattle.core_model.specs.Viewed.{setting_of, view}
 use Rattle.core_model.specs.World.{Start}
-use Rattle.run_laws.specs.Isolation.{StartsConfined, StartsConfinedHard, QuietUnpermitted}
-use Rattle.loop_laws.specs.Answered.{with_all_shown}
-use Rattle.loop_laws.specs.LoopLaws.{LoopIsolation, LoopsExist, PhasedLoops}
-use Rattle.loop_laws.specs.Sampled.{plant_of}
+use Rattle.isolation.specs.Isolation.{StartsConfined, StartsConfinedHard, QuietUnpermitted}
+use Rattle.closed_loops.specs.Answered.{with_all_shown}
+use Rattle.closed_loops.specs.LoopLaws.{LoopIsolation, LoopsExist, PhasedLoops}
+use Rattle.closed_loops.specs.Sampled.{plant_of}
 use Rattle.loop_runs.specs.Plants.{loop_start, response_at}
 use Rattle.loop_runs.specs.SampledLaws.{SampledAlone, SampledPhased, SampledUnpermitted}
 

@@ -9,8 +9,8 @@ use Rattle.std.proofs.lemmas.List.FromFn.{get_or-map-range_with_len}
 use Rattle.fp_ports.specs.PluggedPorts.{Row, row_at, word_seen, fed}
 use Rattle.core_model.specs.World.{Start, has_port, is_plugged, port_word, world}
 use Rattle.pipe_model.specs.Relation.{HasLatches}
-use Rattle.loop_laws.proofs.Causal.{past-words}
-use Rattle.loop_laws.proofs.Closed.{shown-same}
+use Rattle.closed_loops.proofs.Causal.{past-words}
+use Rattle.closed_loops.proofs.Closed.{shown-same}
 use Rattle.machine.specs.DumpedState.{is_port_left}
 use Rattle.machine.specs.FieldRelation.{port_read}
 use Rattle.pipeline_core.specs.Abstraction.{abstract_stages, abstract_state}

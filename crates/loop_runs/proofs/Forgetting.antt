@@ -14,7 +14,7 @@ use Rattle.machine.specs.DumpedState.{is_port_left}
 use Rattle.machine.specs.FieldRelation.{port_read}
 use Rattle.machine.specs.WorldRelation.{Refines}
 use Rattle.machine.specs.declared.state.Machine.{Machine}
-use Rattle.loop_laws.specs.Answered.{with_all_shown}
+use Rattle.closed_loops.specs.Answered.{with_all_shown}
 use Rattle.loop_runs.specs.FedRuns.{AllForgot, FallsBelow, ForgetsRunning, KeepsThree}
 use Rattle.loop_runs.specs.Looping.{Looping}
 use Rattle.loop_runs.specs.Plants.{Response}

@@ -5,9 +5,9 @@ use Rattle.std.proofs.Common.{append_assoc, refl, ap, sym, ◌∙◌, subst, ari
 use Rattle.std.proofs.Math.Nat.{add-mul, lt-div-mul-add, suc-mul, mul-le-mul_right}
 use Rattle.std.specs.Io.KnownBytes.{Appends}
 use Rattle.std.proofs.lemmas.List.{append-nil}
-use Rattle.fp_io.specs.Causes.{Rose}
-use Rattle.fp_io.specs.Content.{AppendsFront}
-use Rattle.fp_io.proofs.Fronts.{appends_front, appends_nothing, front_of_more}
+use Rattle.fp_io.specs.Causes.{HasRisen}
+use Rattle.fp_io.specs.Content.{AppendsPrefix}
+use Rattle.fp_io.proofs.Prefixes.{appends_prefix, appends_nothing, prefix_of_more}
 use Rattle.rv_exec.specs.declared.outcome.Event.{Event}
 use Rattle.pipe_model.specs.PipelineLaws.{EventsGrow}
 use Rattle.pipe_model.specs.Relation.{event_in, of_thread, turn_at}
@@ -17,42 +17,42 @@ use Rattle.core_model.specs.World.{Start, events, recent, world}
 use Rattle.machine.specs.WorldRelation.{HasRun, Stopped}
 use Rattle.machine.specs.declared.state.Machine.{Machine}
 use Rattle.machine.proofs.RunLemmas.{left_all, text-next}
-use Rattle.loop_laws.specs.Answered.{with_all_shown}
+use Rattle.closed_loops.specs.Answered.{with_all_shown}
 use Rattle.loop_runs.specs.Plants.{Response, loop_start}
 use Rattle.loop_runs.specs.Looping.{HasLooped, Looping}
 use Rattle.loop_runs.proofs.Steps.{run-step, text-so-far}
 
 pub begins-looped : (first : List (Option Response)) (every : ℕ) (s : Start)
-    (n c thread : ℕ) (m : Machine) (ports : List (Option Row)) (told : Option (List ℕ)) →
+    (n c thread : ℕ) (m : Machine) (ports : List (Option Row)) (contents : Option (List ℕ)) →
     c ≡ 0 → Looping first first every s n 0 8 c m ports →
-    HasLooped first first every s n 0 8 c thread m ports told told
+    HasLooped first first every s n 0 8 c thread m ports contents contents
 unfolding world recent
-begins-looped first every s n c thread m ports told e h =
+begins-looped first every s n c thread m ports contents e h =
     let Told : ℕ → Type 0 =
-    λ d. Appends told told (text (events (loop_start first every s n) thread d)) in
-    record { looping = h; put = subst Told (sym e) (appends_nothing told) }
+    λ d. Appends contents contents (text (events (loop_start first every s n) thread d)) in
+    record { looping = h; put = subst Told (sym e) (appends_nothing contents) }
 
 -- the machine has run to cycle e
 pub ran-step : (first now : List (Option Response)) (every : ℕ) (s : Start) (n k c e thread : ℕ)
-    (m l : Machine) (ports later : List (Option Row)) (told between after : Option (List ℕ)) →
-    (h : HasLooped first now every s n k 8 c thread m ports told between) →
+    (m l : Machine) (ports later : List (Option Row)) (contents between after : Option (List ℕ)) →
+    (h : HasLooped first now every s n k 8 c thread m ports contents between) →
     c ≤ e → e ≤ n → e ≤ suc k * every →
-    (HasRun (with_all_shown s h.looping.shown) c n thread ports m ports told between →
-    HasRun (with_all_shown s h.looping.shown) e n thread ports l later told after) →
-    HasLooped first now every s n k 8 e thread l later told after
+    (HasRun (with_all_shown s h.looping.shown) c n thread ports m ports contents between →
+    HasRun (with_all_shown s h.looping.shown) e n thread ports l later contents after) →
+    HasLooped first now every s n k 8 e thread l later contents after
 ran-step first now every s n k c e thread m l ports
-    later told between after h forth within reach ran =
+    later contents between after h forth within reach ran =
     let t = with_all_shown s h.looping.shown in
-    let Between : List ℕ → Type 0 = λ x. Appends told between x in
-    let After : List ℕ → Type 0 = λ x. Appends told after x in
-    let before : HasRun t c n thread ports m ports told between = record {
+    let Between : List ℕ → Type 0 = λ x. Appends contents between x in
+    let After : List ℕ → Type 0 = λ x. Appends contents after x in
+    let before : HasRun t c n thread ports m ports contents between = record {
       put =
           subst Between (sym (text-so-far first now every s n k c c thread m ports h.looping
           (omega arith) (omega arith))) h.put;
       refines = h.looping.refines;
       left = left_all ports;
     } in
-    let run : HasRun t e n thread ports l later told after = ran before in
+    let run : HasRun t e n thread ports l later contents after = ran before in
     record {
       looping = run-step first now every s n k 8 c e m l ports later h.looping forth run.refines;
       put =
@@ -62,21 +62,21 @@ ran-step first now every s n k c e thread m l ports
 
 -- the same, by an equal cycle and an equal number of steps
 pub looped-at : (first now : List (Option Response)) (every : ℕ) (s : Start) (n k j c d thread : ℕ)
-    (m : Machine) (ports : List (Option Row)) (told after : Option (List ℕ)) →
-    k ≡ j → c ≡ d → HasLooped first now every s n k 8 c thread m ports told after →
-    HasLooped first now every s n j 8 d thread m ports told after
-looped-at first now every s n k j c d thread m ports told after e f h =
-    subst (λ (x : ℕ). HasLooped first now every s n x 8 d thread m ports told after) e
-    (subst (λ (x : ℕ). HasLooped first now every s n k 8 x thread m ports told after) f h)
+    (m : Machine) (ports : List (Option Row)) (contents after : Option (List ℕ)) →
+    k ≡ j → c ≡ d → HasLooped first now every s n k 8 c thread m ports contents after →
+    HasLooped first now every s n j 8 d thread m ports contents after
+looped-at first now every s n k j c d thread m ports contents after e f h =
+    subst (λ (x : ℕ). HasLooped first now every s n x 8 d thread m ports contents after) e
+    (subst (λ (x : ℕ). HasLooped first now every s n k 8 x thread m ports contents after) f h)
 
 -- the plants have done their step: the text stays
 pub stepped-looped : (first now after : List (Option Response))
     (every : ℕ) (s : Start) (n k c thread : ℕ) (m : Machine)
-    (ports later : List (Option Row)) (told between : Option (List ℕ)) →
-    HasLooped first now every s n k 8 c thread m ports told between →
+    (ports later : List (Option Row)) (contents between : Option (List ℕ)) →
+    HasLooped first now every s n k 8 c thread m ports contents between →
     Looping first after every s n (suc k) 8 c m later →
-    HasLooped first after every s n (suc k) 8 c thread m later told between
-stepped-looped first now after every s n k c thread m ports later told between h g =
+    HasLooped first after every s n (suc k) 8 c thread m later contents between
+stepped-looped first now after every s n k c thread m ports later contents between h g =
     record { looping = g; put = h.put }
 
 pub next-cycle : (k every at after : ℕ) → at ≡ k * every → after ≡ at + every →
@@ -125,65 +125,69 @@ text-longer grow t i c (suc more) =
     )
 
 -- a prefix of the text of a run is one of the text of a longer run
-pub front-longer : EventsGrow → (t : Start) (i c n : ℕ) (told after : Option (List ℕ)) → c ≤ n →
-    AppendsFront told after (text (events t i c)) → AppendsFront told after (text (events t i n))
-front-longer grow t i c n told after l front =
+pub prefix-longer : EventsGrow → (t : Start) (i c n : ℕ) (contents after : Option (List ℕ)) → c ≤ n
+    →
+    AppendsPrefix contents after (text (events t i c)) → AppendsPrefix contents after (text
+    (events t i n))
+prefix-longer grow t i c n contents after l prefix =
     let (rest, is) = text-longer grow t i c (n - c) in
     let end : c + (n - c) ≡ n = omega arith in
     let whole : text (events t i n) ≡ text (events t i c) ++ rest =
     ap (λ k. text (events t i k)) (sym end) ∙ is in
-    subst (λ (x : List ℕ). AppendsFront told after x) (sym whole)
-    (front_of_more told after (text (events t i c)) rest front)
+    subst (λ (x : List ℕ). AppendsPrefix contents after x) (sym whole)
+    (prefix_of_more contents after (text (events t i c)) rest prefix)
 
-front-none : (told : Option (List ℕ)) → AppendsFront told told []
-front-none None = tt
-front-none (Some xs) = (0, omega arith, sym (append-nil xs))
+prefix-none : (contents : Option (List ℕ)) → AppendsPrefix contents contents []
+prefix-none None = tt
+prefix-none (Some xs) = (0, omega arith, sym (append-nil xs))
 
-front-all : (told after : Option (List ℕ)) (xs : List ℕ) → Appends told after xs →
-    AppendsFront told after xs
-front-all told after xs put =
-    appends_front told after after xs [] [] xs (sym (append-nil (xs ++ []) ∙ append-nil xs)) put
-    (front-none after)
+prefix-all : (contents after : Option (List ℕ)) (xs : List ℕ) → Appends contents after xs →
+    AppendsPrefix contents after xs
+prefix-all contents after xs put =
+    appends_prefix contents after after xs [] [] xs (sym (append-nil (xs ++ [])
+    ∙ append-nil xs)) put
+    (prefix-none after)
 
 -- no text was written
-pub front-nothing : (told : Option (List ℕ)) (xs : List ℕ) → AppendsFront told told xs
-front-nothing told xs = front_of_more told told [] xs (front-none told)
+pub prefix-nothing : (contents : Option (List ℕ)) (xs : List ℕ) → AppendsPrefix contents contents xs
+prefix-nothing contents xs = prefix_of_more contents contents [] xs (prefix-none contents)
 
 -- the whole text so far was written
-pub looped-front : EventsGrow → (first now : List (Option Response)) (every : ℕ) (s : Start)
-    (n k c thread : ℕ) (m : Machine) (ports : List (Option Row)) (told after : Option (List ℕ)) →
-    c ≤ n → HasLooped first now every s n k 8 c thread m ports told after →
-    AppendsFront told after (text (events (loop_start first every s n) thread n))
-looped-front grow first now every s n k c thread m ports told after l h =
-    front-longer grow (loop_start first every s n) thread c n told after l
-    (front-all told after (text (events (loop_start first every s n) thread c)) h.put)
+pub looped-prefix : EventsGrow → (first now : List (Option Response)) (every : ℕ) (s : Start)
+    (n k c thread : ℕ) (m : Machine) (ports : List (Option Row)) (contents after : Option (List ℕ))
+    →
+    c ≤ n → HasLooped first now every s n k 8 c thread m ports contents after →
+    AppendsPrefix contents after (text (events (loop_start first every s n) thread n))
+looped-prefix grow first now every s n k c thread m ports contents after l h =
+    prefix-longer grow (loop_start first every s n) thread c n contents after l
+    (prefix-all contents after (text (events (loop_start first every s n) thread c)) h.put)
 
 -- the sink stopped the machine before cycle e
-pub stopped-front : EventsGrow →
+pub stopped-prefix : EventsGrow →
     (first now : List (Option Response)) (every : ℕ) (s : Start) (n k c e thread : ℕ)
-    (m l : Machine) (ports later : List (Option Row)) (told between after : Option (List ℕ)) →
-    (h : HasLooped first now every s n k 8 c thread m ports told between) →
+    (m l : Machine) (ports later : List (Option Row)) (contents between after : Option (List ℕ)) →
+    (h : HasLooped first now every s n k 8 c thread m ports contents between) →
     c ≤ e → e ≤ n → e ≤ suc k * every → l.at ≤ e →
-    (HasRun (with_all_shown s h.looping.shown) c n thread ports m ports told between →
-    Stopped (with_all_shown s h.looping.shown) n thread ports l later told after) →
-    AppendsFront told after (text (events (loop_start first every s n) thread n))
-stopped-front grow first now every s n k c e thread m l ports
-    later told between after h forth within reach before stops =
+    (HasRun (with_all_shown s h.looping.shown) c n thread ports m ports contents between →
+    Stopped (with_all_shown s h.looping.shown) n thread ports l later contents after) →
+    AppendsPrefix contents after (text (events (loop_start first every s n) thread n))
+stopped-prefix grow first now every s n k c e thread m l ports
+    later contents between after h forth within reach before stops =
     let t = with_all_shown s h.looping.shown in
-    let Between : List ℕ → Type 0 = λ x. Appends told between x in
-    let After : List ℕ → Type 0 = λ x. AppendsFront told after x in
-    let run : HasRun t c n thread ports m ports told between = record {
+    let Between : List ℕ → Type 0 = λ x. Appends contents between x in
+    let After : List ℕ → Type 0 = λ x. AppendsPrefix contents after x in
+    let run : HasRun t c n thread ports m ports contents between = record {
       put =
           subst Between (sym (text-so-far first now every s n k c c thread m ports h.looping
           (omega arith) (omega arith))) h.put;
       refines = h.looping.refines;
       left = left_all ports;
     } in
-    let stopped : Stopped t n thread ports l later told after = stops run in
-    front-longer grow (loop_start first every s n) thread l.at n told after (omega arith)
+    let stopped : Stopped t n thread ports l later contents after = stops run in
+    prefix-longer grow (loop_start first every s n) thread l.at n contents after (omega arith)
     (subst After (text-so-far first now every s n k c l.at thread m ports h.looping (omega arith)
     (omega arith)) stopped.with_last)
 
 -- if a count rose in a later call, it rose in the whole run
-pub rose-later : (a b c : ℕ) → a ≤ b → Rose b c → Rose a c
+pub rose-later : (a b c : ℕ) → a ≤ b → HasRisen b c → HasRisen a c
 rose-later a b c l rose = omega arith

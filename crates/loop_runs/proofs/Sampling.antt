@@ -14,11 +14,11 @@ use Rattle.machine.specs.DumpedState.{is_port_left}
 use Rattle.machine.specs.FieldRelation.{port_read}
 use Rattle.machine.specs.WorldRelation.{Refines}
 use Rattle.machine.specs.declared.state.Machine.{Machine}
-use Rattle.loop_laws.specs.Answered.{with_all_shown}
-use Rattle.loop_laws.specs.Sampled.{latch_samples, plant_of}
-use Rattle.loop_laws.proofs.Causal.{past-words}
-use Rattle.loop_laws.proofs.Closed.{closed-past}
-use Rattle.loop_laws.proofs.Sampling.{sampled-words}
+use Rattle.closed_loops.specs.Answered.{with_all_shown}
+use Rattle.closed_loops.specs.Sampled.{latch_samples, plant_of}
+use Rattle.closed_loops.proofs.Causal.{past-words}
+use Rattle.closed_loops.proofs.Closed.{closed-past}
+use Rattle.closed_loops.proofs.Sampling.{sampled-words}
 use Rattle.loop_runs.specs.Plants.{Response, loop_start, response_at}
 use Rattle.loop_runs.specs.Looping.{words_end}
 

@@ -15,9 +15,9 @@ use Rattle.core_model.specs.World.{has_port, port_word, recent, world}
 use Rattle.pipeline_core.specs.Abstraction.{abstract_stages, abstract_state}
 use Rattle.machine.specs.WorldRelation.{Refines}
 use Rattle.machine.specs.declared.state.Machine.{Machine}
-use Rattle.loop_laws.specs.Answered.{with_all_shown}
-use Rattle.loop_laws.specs.Sampled.{latch_samples, latch_word}
-use Rattle.loop_laws.proofs.Sampling.{absent-word, input-word}
+use Rattle.closed_loops.specs.Answered.{with_all_shown}
+use Rattle.closed_loops.specs.Sampled.{latch_samples, latch_word}
+use Rattle.closed_loops.proofs.Sampling.{absent-word, input-word}
 use Rattle.loop_runs.specs.FedRuns.{fed_start, words_fed}
 use Rattle.loop_runs.proofs.Worlds.{refines-same}
 use Rattle.loop_runs.proofs.FedPorts.{before-word, fed-word, other-word}

@@ -5,9 +5,9 @@ use Rattle.fp_ports.specs.PluggedPorts.{Row, row_at}
 use Rattle.core_model.specs.World.{Start, World, world}
 use Rattle.core_model.specs.World.Took.{Idle}
 use Rattle.pipe_model.specs.Stages.{StageRegisters, State}
-use Rattle.pipe_model.specs.Relation.{HasLatches, Refines, bank_in, control_in, in_decode}
+use Rattle.pipe_model.specs.Relation.{HasLatches, PipelineRefines, bank_in, control_in, in_decode}
 use Rattle.pipe_model.specs.Relation.{in_execute, in_fetch, in_memory, in_write, next_of, pick_in}
-use Rattle.loop_laws.specs.Answered.{with_all_shown}
+use Rattle.closed_loops.specs.Answered.{with_all_shown}
 
 -- the stage registers, by the worlds
 abbrev stages_in : Start → ℕ → World → World → World → List ℕ → StageRegisters
@@ -71,8 +71,8 @@ module _ (s : Start) (shown : List (List ℕ)) (c : ℕ)
       (world (with_all_shown s shown) (c - 2)) v w ports) three four
 
   pub refines-same : (p : StageRegisters) (u : State) (ports : List (Option Row)) →
-      Refines s c p u → HasLatches (world s (c - 3)) ports →
-      Refines (with_all_shown s shown) c p (record u { ports = ports })
+      PipelineRefines s c p u → HasLatches (world s (c - 3)) ports →
+      PipelineRefines (with_all_shown s shown) c p (record u { ports = ports })
   refines-same p u ports st latches = record {
     stage_registers = stages-same p st.stage_registers;
     fronts = record {

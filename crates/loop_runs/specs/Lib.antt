@@ -5,11 +5,11 @@ pub mod SampledLaws
 pub use Rattle.fp_io.specs.Causes
 pub use Rattle.fp_io.specs.Content
 pub use Rattle.fp_ports.specs.PluggedPorts
-pub use Rattle.loop_laws.specs.Answered
-pub use Rattle.loop_laws.specs.Loop
+pub use Rattle.closed_loops.specs.Answered
+pub use Rattle.closed_loops.specs.Loop
 pub use Rattle.machine.specs.WorldRelation
 pub use Rattle.core_model.specs.Phases
-pub use Rattle.run_laws.specs.Isolation
+pub use Rattle.isolation.specs.Isolation
 pub use Rattle.timer_unit.specs.Time
 pub use Rattle.trace_print.specs.Text
 pub use Rattle.core_model.specs.World

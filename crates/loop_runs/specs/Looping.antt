@@ -7,8 +7,8 @@ use Rattle.trace_print.specs.Text.{text}
 use Rattle.core_model.specs.World.{Start, events, port_word}
 use Rattle.machine.specs.declared.state.Machine.{Machine}
 use Rattle.machine.specs.WorldRelation.{Refines}
-use Rattle.loop_laws.specs.Answered.{with_all_shown}
-use Rattle.loop_laws.specs.Sampled.{latch_samples}
+use Rattle.closed_loops.specs.Answered.{with_all_shown}
+use Rattle.closed_loops.specs.Sampled.{latch_samples}
 use Rattle.loop_runs.specs.Plants.{Continues, Response, loop_start, response_at}
 
 -- the number of samples that the plant of thread j has taken. The plants of the first i threads

@@ -3,7 +3,7 @@
 use Rattle.std.specs.Prelude.{◌≡◌, ◌≢◌, ℕ, List, [], ◌∷◌, ◌++◌, map}
 use Rattle.std.specs.Prelude.{Option, Some, None, slice_index_or, ⊤}
 use Rattle.core_model.specs.World.{Start}
-use Rattle.loop_laws.specs.Sampled.{sampled_start}
+use Rattle.closed_loops.specs.Sampled.{sampled_start}
 
 abbrev pub Response : Type 0
 Response = List ℕ → ℕ

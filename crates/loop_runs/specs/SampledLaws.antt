@@ -3,10 +3,10 @@ use Rattle.std.specs.Prelude.{◌≡◌, ℕ, ◌≤◌, true, false, List, Opti
 use Rattle.std.specs.List.{list_all}
 use Rattle.core_model.specs.World.{Start, events, is_quiet}
 use Rattle.core_model.specs.Phases.{phases, keeps_regions, is_never_soft}
-use Rattle.run_laws.specs.Isolation.{StartsConfined, StartsConfinedHard}
-use Rattle.loop_laws.specs.Loop.{Plant, phased_in_loop, solo_in_loop}
-use Rattle.loop_laws.specs.Answered.{loop_view}
-use Rattle.loop_laws.specs.Sampled.{plant_of}
+use Rattle.isolation.specs.Isolation.{StartsConfined, StartsConfinedHard}
+use Rattle.closed_loops.specs.Loop.{Plant, phased_in_loop, solo_in_loop}
+use Rattle.closed_loops.specs.Answered.{loop_view}
+use Rattle.closed_loops.specs.Sampled.{plant_of}
 use Rattle.loop_runs.specs.Plants.{Response, loop_start, response_at}
 
 -- the plant of thread i

@@ -5,23 +5,23 @@ ghost use Rattle.std.specs.Prelude.{◌≡◌, ℕ, suc, ◌+◌, ◌*◌, ◌/�
 ghost use Rattle.std.specs.Prelude.{List, Option, OnOk, OnErr, slice_index_or, vec_len};
 ghost use Rattle.std.specs.List.{list_all};
 ghost use Rattle.std.specs.Io.KnownBytes.{Appends};
-ghost use Rattle.fp_io.specs.Causes.{Rose};
-ghost use Rattle.fp_io.specs.Content.{AppendsFront};
+ghost use Rattle.fp_io.specs.Causes.{HasRisen};
+ghost use Rattle.fp_io.specs.Content.{AppendsPrefix};
 ghost use Rattle.timer_unit.specs.Time.{most_cycles};
 ghost use Rattle.fp_ports.specs.PluggedPorts.{rows_of};
 ghost use Rattle.trace_print.specs.Text.{text};
 ghost use Rattle.core_model.specs.World.{Start, events, is_quiet};
 ghost use Rattle.core_model.specs.Phases.{phases, keeps_regions, is_never_soft};
-ghost use Rattle.run_laws.specs.Isolation.{StartsConfined, StartsConfinedHard};
+ghost use Rattle.isolation.specs.Isolation.{StartsConfined, StartsConfinedHard};
 ghost use Rattle.machine.specs.WorldRelation.{Refines};
-ghost use Rattle.loop_laws.specs.Loop.{phased_in_loop, solo_in_loop};
-ghost use Rattle.loop_laws.specs.Answered.{loop_view};
+ghost use Rattle.closed_loops.specs.Loop.{phased_in_loop, solo_in_loop};
+ghost use Rattle.closed_loops.specs.Answered.{loop_view};
 ghost use Rattle.loop_runs.specs.Plants.{Response, loop_start, responses_of};
 ghost use Rattle.loop_runs.specs.Looping.{HasLooped, Looping};
 ghost use Rattle.loop_runs.specs.SampledLaws.{plant_at};
 
 use crate::feeding::{feed_now, forget_past};
-use crate::plants::{Plants, step_plant, word_of};
+use crate::plants::{Plant, Plants, step_plant, word_of};
 use fp_io::{PutFailed, Sink};
 use fp_ports::{Ports, latch_of};
 use machine::Machine;
@@ -63,10 +63,10 @@ impl From<PutFailed> for LoopStop {
 }
 
 /// Feeds the first word of a thread's plant to its port, if the thread has a plant.
-fn begin_thread(
+fn begin_thread<P: Plant>(
     machine: &Machine,
     ports: &mut Ports,
-    plants: &Plants,
+    plants: &Plants<P>,
     thread: u8,
 ) -> Result<(), AllocError>
     requires eight { vec_len ports.old ≡ 8 }
@@ -74,11 +74,11 @@ fn begin_thread(
     requires thread { thread < 8 }
     requires start { machine.now.at ≡ 0 }
     ensures looping { (every : ℕ) (s : Start) (n : ℕ) → 0 < every → n ≤ 2 ^ 64
-        → Looping (responses_of response plants.now.items)
-        (responses_of response plants.now.items) every s n 0 thread machine.now.at
+        → Looping (responses_of P.response plants.now.items)
+        (responses_of P.response plants.now.items) every s n 0 thread machine.now.at
         machine.now (rows_of latched word_at ports.old.items)
-        → OnOk result (Looping (responses_of response plants.now.items)
-        (responses_of response plants.now.items) every s n 0 (suc thread)
+        → OnOk result (Looping (responses_of P.response plants.now.items)
+        (responses_of P.response plants.now.items) every s n 0 (suc thread)
         machine.now.at machine.now (rows_of latched word_at ports.new.items)) }
     ensures eight { vec_len ports.new ≡ 8 }
 {
@@ -90,10 +90,10 @@ fn begin_thread(
 
 /// Samples the latch of a thread's port, steps the thread's plant and feeds its word to the port.
 /// Nothing changes if the thread has no plant or no port.
-fn sample_thread(
+fn sample_thread<P: Plant>(
     machine: &Machine,
     ports: &mut Ports,
-    plants: &mut Plants,
+    plants: &mut Plants<P>,
     thread: u8,
 ) -> Result<(), AllocError>
     requires eight { vec_len ports.old ≡ 8 }
@@ -101,9 +101,9 @@ fn sample_thread(
     requires thread { thread < 8 }
     ensures looping { (first : List (Option Response)) (every : ℕ) (s : Start) (n k : ℕ)
         → 0 < every → n ≤ 2 ^ 64 → machine.now.at ≤ n → machine.now.at ≡ suc k * every
-        → Looping first (responses_of response plants.old.items) every s n (suc k) thread
+        → Looping first (responses_of P.response plants.old.items) every s n (suc k) thread
         machine.now.at machine.now (rows_of latched word_at ports.old.items)
-        → OnOk result (Looping first (responses_of response plants.new.items) every s n (suc k)
+        → OnOk result (Looping first (responses_of P.response plants.new.items) every s n (suc k)
         (suc thread) machine.now.at machine.now (rows_of latched word_at ports.new.items)) }
     ensures eight { vec_len ports.new ≡ 8 }
     ensures plants { vec_len plants.new ≡ 8 }
@@ -118,14 +118,18 @@ fn sample_thread(
 }
 
 /// Feeds the first words of all plants to their ports.
-fn begin_all(machine: &Machine, ports: &mut Ports, plants: &Plants) -> Result<(), AllocError>
+fn begin_all<P: Plant>(
+    machine: &Machine,
+    ports: &mut Ports,
+    plants: &Plants<P>,
+) -> Result<(), AllocError>
     requires eight { vec_len ports.old ≡ 8 }
     requires plants { vec_len plants.now ≡ 8 }
     requires start { machine.now.at ≡ 0 }
     ensures looping { (every : ℕ) (s : Start) (n : ℕ) → 0 < every → n ≤ 2 ^ 64
         → Refines s 0 n machine.now (rows_of latched word_at ports.old.items)
-        → OnOk result (Looping (responses_of response plants.now.items)
-        (responses_of response plants.now.items) every s n 0 8 machine.now.at machine.now
+        → OnOk result (Looping (responses_of P.response plants.now.items)
+        (responses_of P.response plants.now.items) every s n 0 8 machine.now.at machine.now
         (rows_of latched word_at ports.new.items)) }
     ensures eight { vec_len ports.new ≡ 8 }
 {
@@ -136,14 +140,18 @@ fn begin_all(machine: &Machine, ports: &mut Ports, plants: &Plants) -> Result<()
 }
 
 /// Does a step of all plants.
-fn sample_all(machine: &Machine, ports: &mut Ports, plants: &mut Plants) -> Result<(), AllocError>
+fn sample_all<P: Plant>(
+    machine: &Machine,
+    ports: &mut Ports,
+    plants: &mut Plants<P>,
+) -> Result<(), AllocError>
     requires eight { vec_len ports.old ≡ 8 }
     requires plants { vec_len plants.old ≡ 8 }
     ensures looping { (first : List (Option Response)) (every : ℕ) (s : Start) (n k : ℕ)
         → 0 < every → n ≤ 2 ^ 64 → machine.now.at ≤ n → machine.now.at ≡ suc k * every
-        → Looping first (responses_of response plants.old.items) every s n k 8
+        → Looping first (responses_of P.response plants.old.items) every s n k 8
         machine.now.at machine.now (rows_of latched word_at ports.old.items)
-        → OnOk result (Looping first (responses_of response plants.new.items) every s n (suc k)
+        → OnOk result (Looping first (responses_of P.response plants.new.items) every s n (suc k)
         8 machine.now.at machine.now (rows_of latched word_at ports.new.items)) }
     ensures eight { vec_len ports.new ≡ 8 }
     ensures plants { vec_len plants.new ≡ 8 }
@@ -156,10 +164,10 @@ fn sample_all(machine: &Machine, ports: &mut Ports, plants: &mut Plants) -> Resu
 
 /// Runs the machine for `every` cycles, and puts the lines of a thread. Then the ports forget their
 /// past words, and all plants do a step.
-fn loop_step<K: Sink>(
+fn loop_step<P: Plant, K: Sink>(
     machine: &mut Machine,
     ports: &mut Ports,
-    plants: &mut Plants,
+    plants: &mut Plants<P>,
     thread: u8,
     every: u64,
     out: &mut K,
@@ -169,22 +177,22 @@ fn loop_step<K: Sink>(
     requires eight { vec_len ports.old ≡ 8 }
     requires plants { vec_len plants.old ≡ 8 }
     ensures looped { (first : List (Option Response)) (s : Start) (n k : ℕ)
-        (told : Option (List ℕ)) → n ≤ 2 ^ 64 → machine.old.at + every ≤ n
+        (contents : Option (List ℕ)) → n ≤ 2 ^ 64 → machine.old.at + every ≤ n
         → machine.old.at ≡ k * every
-        → HasLooped first (responses_of response plants.old.items) every s n k 8 machine.old.at
-        thread machine.old (rows_of latched word_at ports.old.items) told (K.taken out.old)
-        → OnOk result (HasLooped first (responses_of response plants.new.items) every s n (suc k) 8
-        machine.new.at thread machine.new (rows_of latched word_at ports.new.items) told
+        → HasLooped first (responses_of P.response plants.old.items) every s n k 8 machine.old.at
+        thread machine.old (rows_of latched word_at ports.old.items) contents (K.taken out.old)
+        → OnOk result (HasLooped first (responses_of P.response plants.new.items) every s n (suc k)
+        8 machine.new.at thread machine.new (rows_of latched word_at ports.new.items) contents
         (K.taken out.new)) }
     ensures stopped { (first : List (Option Response)) (s : Start) (n k : ℕ)
-        (told : Option (List ℕ)) → n ≤ 2 ^ 64 → machine.old.at + every ≤ n
+        (contents : Option (List ℕ)) → n ≤ 2 ^ 64 → machine.old.at + every ≤ n
         → machine.old.at ≡ k * every
-        → HasLooped first (responses_of response plants.old.items) every s n k 8 machine.old.at
-        thread machine.old (rows_of latched word_at ports.old.items) told (K.taken out.old)
-        → OnErr result (AppendsFront told (K.taken out.new)
+        → HasLooped first (responses_of P.response plants.old.items) every s n k 8 machine.old.at
+        thread machine.old (rows_of latched word_at ports.old.items) contents (K.taken out.old)
+        → OnErr result (AppendsPrefix contents (K.taken out.new)
         (text (events (loop_start first every s n) thread n))) }
     ensures failed { result ≡ Err LoopStop.PutFailed
-        → Rose (K.faults out.old) (K.faults out.new) }
+        → HasRisen (K.faults out.old) (K.faults out.new) }
     ensures counted { K.faults out.old ≤ K.faults out.new }
     ensures at { OnOk result (machine.new.at ≡ machine.old.at + every) }
     ensures eight { vec_len ports.new ≡ 8 }
@@ -203,16 +211,20 @@ fn loop_step<K: Sink>(
 /// # Errors
 ///
 /// Out of memory.
-pub fn begin_loops(machine: &Machine, ports: &mut Ports, plants: &Plants) -> Result<(), AllocError>
+pub fn begin_loops<P: Plant>(
+    machine: &Machine,
+    ports: &mut Ports,
+    plants: &Plants<P>,
+) -> Result<(), AllocError>
     requires eight { vec_len ports.old ≡ 8 }
     requires plants { vec_len plants.now ≡ 8 }
     requires start { machine.now.at ≡ 0 }
-    ensures looped { (every : ℕ) (s : Start) (n thread : ℕ) (told : Option (List ℕ))
+    ensures looped { (every : ℕ) (s : Start) (n thread : ℕ) (contents : Option (List ℕ))
         → 0 < every → n ≤ 2 ^ 64
         → Refines s 0 n machine.now (rows_of latched word_at ports.old.items)
-        → OnOk result (HasLooped (responses_of response plants.now.items)
-        (responses_of response plants.now.items) every s n 0 8 machine.now.at thread machine.now
-        (rows_of latched word_at ports.new.items) told told) }
+        → OnOk result (HasLooped (responses_of P.response plants.now.items)
+        (responses_of P.response plants.now.items) every s n 0 8 machine.now.at thread machine.now
+        (rows_of latched word_at ports.new.items) contents contents) }
     ensures eight { vec_len ports.new ≡ 8 }
 {
     begin_all(machine, ports, plants)
@@ -225,10 +237,10 @@ pub fn begin_loops(machine: &Machine, ports: &mut Ports, plants: &Plants) -> Res
 /// # Errors
 ///
 /// Out of memory, or a fault of the sink was counted in this call. A prefix of the text was put.
-pub fn continue_loops<K: Sink>(
+pub fn continue_loops<P: Plant, K: Sink>(
     machine: &mut Machine,
     ports: &mut Ports,
-    plants: &mut Plants,
+    plants: &mut Plants<P>,
     thread: u8,
     every: u64,
     steps: u64,
@@ -239,22 +251,22 @@ pub fn continue_loops<K: Sink>(
     requires eight { vec_len ports.old ≡ 8 }
     requires plants { vec_len plants.old ≡ 8 }
     ensures looped { (first : List (Option Response)) (s : Start) (n k : ℕ)
-        (told : Option (List ℕ)) → n ≤ 2 ^ 64 → machine.old.at + steps * every ≤ n
+        (contents : Option (List ℕ)) → n ≤ 2 ^ 64 → machine.old.at + steps * every ≤ n
         → machine.old.at ≡ k * every
-        → HasLooped first (responses_of response plants.old.items) every s n k 8 machine.old.at
-        thread machine.old (rows_of latched word_at ports.old.items) told (K.taken out.old)
-        → OnOk result (HasLooped first (responses_of response plants.new.items) every s n
+        → HasLooped first (responses_of P.response plants.old.items) every s n k 8 machine.old.at
+        thread machine.old (rows_of latched word_at ports.old.items) contents (K.taken out.old)
+        → OnOk result (HasLooped first (responses_of P.response plants.new.items) every s n
         (k + steps) 8 machine.new.at thread machine.new (rows_of latched word_at ports.new.items)
-        told (K.taken out.new)) }
+        contents (K.taken out.new)) }
     ensures stopped { (first : List (Option Response)) (s : Start) (n k : ℕ)
-        (told : Option (List ℕ)) → n ≤ 2 ^ 64 → machine.old.at + steps * every ≤ n
+        (contents : Option (List ℕ)) → n ≤ 2 ^ 64 → machine.old.at + steps * every ≤ n
         → machine.old.at ≡ k * every
-        → HasLooped first (responses_of response plants.old.items) every s n k 8 machine.old.at
-        thread machine.old (rows_of latched word_at ports.old.items) told (K.taken out.old)
-        → OnErr result (AppendsFront told (K.taken out.new)
+        → HasLooped first (responses_of P.response plants.old.items) every s n k 8 machine.old.at
+        thread machine.old (rows_of latched word_at ports.old.items) contents (K.taken out.old)
+        → OnErr result (AppendsPrefix contents (K.taken out.new)
         (text (events (loop_start first every s n) thread n))) }
     ensures failed { result ≡ Err LoopStop.PutFailed
-        → Rose (K.faults out.old) (K.faults out.new) }
+        → HasRisen (K.faults out.old) (K.faults out.new) }
     ensures counted { K.faults out.old ≤ K.faults out.new }
     ensures at { OnOk result (machine.new.at ≡ machine.old.at + steps * every) }
     ensures eight { vec_len ports.new ≡ 8 }
@@ -275,10 +287,10 @@ pub fn continue_loops<K: Sink>(
 /// # Errors
 ///
 /// Out of memory, or a fault of the sink was counted in this call. A prefix of the text was put.
-pub fn run_loops<K: Sink>(
+pub fn run_loops<P: Plant, K: Sink>(
     machine: &mut Machine,
     ports: &mut Ports,
-    plants: &mut Plants,
+    plants: &mut Plants<P>,
     thread: u8,
     every: u64,
     cycles: u64,
@@ -291,42 +303,42 @@ pub fn run_loops<K: Sink>(
     requires plants { vec_len plants.old ≡ 8 }
     ensures looped { (s : Start) (n : ℕ) → cycles ≤ n → n ≤ 2 ^ 64
         → Refines s 0 n machine.old (rows_of latched word_at ports.old.items)
-        → OnOk result (HasLooped (responses_of response plants.old.items)
-        (responses_of response plants.new.items) every s n (cycles / every) 8 cycles thread
+        → OnOk result (HasLooped (responses_of P.response plants.old.items)
+        (responses_of P.response plants.new.items) every s n (cycles / every) 8 cycles thread
         machine.new (rows_of latched word_at ports.new.items)
         (K.taken out.old) (K.taken out.new)) }
     ensures text { (s : Start) → Refines s 0 cycles machine.old
         (rows_of latched word_at ports.old.items)
         → OnOk result (Appends (K.taken out.old) (K.taken out.new) (text (events
-        (loop_start (responses_of response plants.old.items) every s cycles) thread cycles))) }
+        (loop_start (responses_of P.response plants.old.items) every s cycles) thread cycles))) }
     ensures alone { (s : Start) → Refines s 0 cycles machine.old
         (rows_of latched word_at ports.old.items)
         → StartsConfinedHard s thread
-        → is_quiet (loop_start (responses_of response plants.old.items) every s cycles) cycles
+        → is_quiet (loop_start (responses_of P.response plants.old.items) every s cycles) cycles
         ≡ true → OnOk result (Appends (K.taken out.old) (K.taken out.new)
         (text (solo_in_loop (loop_view s thread)
-        (plant_at (responses_of response plants.old.items) every s thread) cycles))) }
+        (plant_at (responses_of P.response plants.old.items) every s thread) cycles))) }
     ensures unpermitted { (s : Start) → Refines s 0 cycles machine.old
         (rows_of latched word_at ports.old.items)
         → StartsConfinedHard s thread → ((k : ℕ) → slice_index_or s.permit k false ≡ false)
         → OnOk result (Appends (K.taken out.old) (K.taken out.new)
         (text (solo_in_loop (loop_view s thread)
-        (plant_at (responses_of response plants.old.items) every s thread) cycles))) }
+        (plant_at (responses_of P.response plants.old.items) every s thread) cycles))) }
     ensures phased { (s : Start) → Refines s 0 cycles machine.old
         (rows_of latched word_at ports.old.items)
         → StartsConfined s thread
-        → (let t = loop_start (responses_of response plants.old.items) every s cycles in
+        → (let t = loop_start (responses_of P.response plants.old.items) every s cycles in
         list_all (is_never_soft thread) (phases t cycles) ≡ true → keeps_regions t cycles ≡ true
         → OnOk result (Appends (K.taken out.old) (K.taken out.new)
         (text (phased_in_loop (loop_view s thread)
-        (plant_at (responses_of response plants.old.items) every s thread) (phases t cycles)
+        (plant_at (responses_of P.response plants.old.items) every s thread) (phases t cycles)
         cycles)))) }
     ensures stopped { (s : Start) → Refines s 0 cycles machine.old
         (rows_of latched word_at ports.old.items)
-        → OnErr result (AppendsFront (K.taken out.old) (K.taken out.new) (text (events
-        (loop_start (responses_of response plants.old.items) every s cycles) thread cycles))) }
+        → OnErr result (AppendsPrefix (K.taken out.old) (K.taken out.new) (text (events
+        (loop_start (responses_of P.response plants.old.items) every s cycles) thread cycles))) }
     ensures failed { result ≡ Err LoopStop.PutFailed
-        → Rose (K.faults out.old) (K.faults out.new) }
+        → HasRisen (K.faults out.old) (K.faults out.new) }
     ensures counted { K.faults out.old ≤ K.faults out.new }
     ensures at { OnOk result (machine.new.at ≡ cycles) }
     ensures eight { vec_len ports.new ≡ 8 }

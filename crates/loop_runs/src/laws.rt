@@ -8,8 +8,8 @@ ghost use Rattle.loop_runs.specs.SampledLaws.{SampledAlone, SampledPhased, Sampl
 pub fn runs_alone_in_loops()
     ensures { SampledAlone }
 {
-    loop_laws::runs_alone_in_loop();
-    loop_laws::has_closed_loops();
+    closed_loops::runs_alone_in_loop();
+    closed_loops::has_closed_loops();
 }
 
 /// The same without permits; then each run is quiet.
@@ -17,13 +17,13 @@ pub fn runs_alone_without_permits()
     ensures { SampledUnpermitted }
 {
     runs_alone_in_loops();
-    run_laws::isolation::stays_quiet();
+    isolation::isolation::stays_quiet();
 }
 
 /// The same while slots and modes change, for a confined thread that is never soft active.
 pub fn runs_by_phases_in_loops()
     ensures { SampledPhased }
 {
-    loop_laws::runs_by_phases_in_loop();
-    loop_laws::has_closed_loops();
+    closed_loops::runs_by_phases_in_loop();
+    closed_loops::has_closed_loops();
 }

@@ -1,4 +1,4 @@
-//! The plants of the eight threads, each a boxed plant or none.
+//! The plants of the eight threads, each a plant or none.
 
 ghost use Rattle.std.specs.Prelude.{◌≡◌, ℕ, ◌<◌, List, [], ◌∷◌, vec_len};
 ghost use Rattle.loop_runs.specs.Plants.{Continues, HasStepped, IsWord};
@@ -21,31 +21,32 @@ pub trait Plant: Drop {
             ≡ response self.old (drive ∷ more) };
 }
 
-/// The plants of the eight threads, in the threads' order. A thread may have none.
-pub type Plants = Vec<Option<Box<dyn Plant>>>;
+/// The plants of the eight threads, in the threads' order. A thread may have none. Where the
+/// threads have plants of several types, P is an enum of them.
+pub type Plants<P> = Vec<Option<P>>;
 
 /// The word of a thread's plant now, if the thread has a plant.
-pub fn word_of(plants: &Plants, thread: u8) -> Option<u32>
+pub fn word_of<P: Plant>(plants: &Plants<P>, thread: u8) -> Option<u32>
     requires eight { vec_len plants.now ≡ 8 }
     requires thread { thread < 8 }
-    ensures { IsWord (response_at (responses_of response plants.now.items) thread) [] result }
+    ensures { IsWord (response_at (responses_of P.response plants.now.items) thread) [] result }
 {
     word_in(&plants[thread as usize])
 }
 
 /// Does one step of a thread's plant. Returns its word, if the thread has a plant.
-pub(crate) fn step_plant(plants: &mut Plants, thread: u8, drive: u32) -> Option<u32>
+pub(crate) fn step_plant<P: Plant>(plants: &mut Plants<P>, thread: u8, drive: u32) -> Option<u32>
     requires eight { vec_len plants.old ≡ 8 }
     requires thread { thread < 8 }
-    ensures stepped { HasStepped (responses_of response plants.old.items)
-        (responses_of response plants.new.items) thread drive result }
+    ensures stepped { HasStepped (responses_of P.response plants.old.items)
+        (responses_of P.response plants.new.items) thread drive result }
     ensures eight { vec_len plants.new ≡ 8 }
 {
     step_entry(&mut plants[thread as usize], drive)
 }
 
-fn word_in(entry: &Option<Box<dyn Plant>>) -> Option<u32>
-    ensures { IsWord (response_of response entry.now) [] result }
+fn word_in<P: Plant>(entry: &Option<P>) -> Option<u32>
+    ensures { IsWord (response_of P.response entry.now) [] result }
 {
     match entry {
         Some(plant) => Some(plant.word()),
@@ -53,10 +54,10 @@ fn word_in(entry: &Option<Box<dyn Plant>>) -> Option<u32>
     }
 }
 
-fn step_entry(entry: &mut Option<Box<dyn Plant>>, drive: u32) -> Option<u32>
-    ensures continues { Continues (response_of response entry.old) (response_of response entry.new)
-        (drive ∷ []) }
-    ensures word { IsWord (response_of response entry.old) (drive ∷ []) result }
+fn step_entry<P: Plant>(entry: &mut Option<P>, drive: u32) -> Option<u32>
+    ensures continues { Continues (response_of P.response entry.old)
+        (response_of P.response entry.new) (drive ∷ []) }
+    ensures word { IsWord (response_of P.response entry.old) (drive ∷ []) result }
 {
     match entry {
         Some(plant) => Some(plant.step(drive)),

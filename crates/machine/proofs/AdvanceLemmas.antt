@@ -4,8 +4,8 @@ use Rattle.std.proofs.Common.{None, refl, ap, sym, subst, ◌∙◌, arith, add-
 use Rattle.std.specs.Prelude.{is_some}
 use Rattle.std.specs.List.{list_any}
 use Rattle.std.specs.Io.KnownBytes.{Appends}
-use Rattle.fp_io.specs.Content.{AppendsFront}
-use Rattle.fp_io.proofs.Fronts.{appends_nothing}
+use Rattle.fp_io.specs.Content.{AppendsPrefix}
+use Rattle.fp_io.proofs.Prefixes.{appends_nothing}
 use Rattle.fp_ports.specs.PluggedPorts.{Row}
 use Rattle.rv_exec.specs.declared.outcome.Event.{Event}
 use Rattle.core_model.specs.World.{Start}
@@ -196,7 +196,7 @@ put_goes_on acts s c n first stages w m rows o before between now pause put = re
 pub put_stops : {O : Type 0} (acts : Acts O) (s : Start) (c n : ℕ) (first : O)
     (p : StageRegisters) (m : Machine) (rows : List (Option Row)) (o : O)
     (before between now : Option (List ℕ)) → Pauses acts s c n first p m rows o before between →
-    AppendsFront between now (acts.ready o) → Stops acts s c n first p m rows before now
+    AppendsPrefix between now (acts.ready o) → Stops acts s c n first p m rows before now
 put_stops acts s c n first p m rows o before between now pause put = record {
   refines = pause.refines;
   seen = record {
@@ -204,7 +204,7 @@ put_stops acts s c n first p m rows o before between now pause put = record {
     last = pause.last;
     between = between;
     earlier = pause.earlier;
-    part = subst (λ xs. AppendsFront between now xs) (sym pause.ready) put;
+    part = subst (λ xs. AppendsPrefix between now xs) (sym pause.ready) put;
   };
 }
 
@@ -241,7 +241,7 @@ ran_to_put acts s c n end first m rows o before between now at pause put =
 pub ran_in_part : {O : Type 0} (acts : Acts O) (s : Start) (c n : ℕ) (first : O)
     (m : Machine) (rows : List (Option Row)) (o : O) (before between now : Option (List ℕ)) →
     Pauses acts s c n first (abstract_stages m.pipe) m rows o before between →
-    AppendsFront between now (acts.ready o) →
+    AppendsPrefix between now (acts.ready o) →
     Refines s m.at n m rows × SawInPart acts s c m.at first before now
 ran_in_part acts s c n first m rows o before between now pause put =
     let stop = put_stops acts s c n first (abstract_stages m.pipe) m rows o before between now pause

@@ -2,7 +2,7 @@
 use Rattle.std.proofs.Common.{ℕ, List, Option, Ok, Err, subst}
 use Rattle.std.specs.Prelude.{Result, OnOk, OnErr}
 use Rattle.std.specs.Io.KnownBytes.{Appends}
-use Rattle.fp_io.specs.Content.{AppendsFront}
+use Rattle.fp_io.specs.Content.{AppendsPrefix}
 use Rattle.fp_io.specs.declared.sink.PutFailed.{PutFailed}
 use Rattle.fp_ports.specs.PluggedPorts.{Row}
 use Rattle.core_model.specs.World.{Start}
@@ -25,12 +25,12 @@ dump_ok (Ok x) before after m rows put =
 dump_ok (Err e) before after m rows put = put
 
 pub dump_err : (r : Result (Unit {0}) PutFailed) (before after : Option (List ℕ))
-    (m : Machine) (rows : List (Option Row)) → OnErr r (AppendsFront before after
+    (m : Machine) (rows : List (Option Row)) → OnErr r (AppendsPrefix before after
     (dump_of (abstract_stages m.pipe) (abstract_state m.units rows) m.at)) →
-    OnErr r ((s : Start) (c n : ℕ) → Refines s c n m rows → AppendsFront before after (seen s c))
+    OnErr r ((s : Start) (c n : ℕ) → Refines s c n m rows → AppendsPrefix before after (seen s c))
 dump_err (Ok x) before after m rows put = put
 dump_err (Err e) before after m rows put =
     λ s c n refines.
-    let Put : List ℕ → Type 0 = λ text. AppendsFront before after text in
+    let Put : List ℕ → Type 0 = λ text. AppendsPrefix before after text in
     subst Put
     (dumps s c n (abstract_stages m.pipe) (abstract_state m.units rows) m.at m.unplugs refines) put

@@ -6,8 +6,8 @@ use Rattle.std.specs.Prelude.{◌==◌, if◌then◌else◌, is_some}
 use Rattle.std.specs.Io.KnownBytes.{Appends}
 use Rattle.std.proofs.lemmas.Bool.Decides.{nat_tests}
 use Rattle.std.proofs.lemmas.List.{append-nil}
-use Rattle.fp_io.specs.Content.{AppendsFront}
-use Rattle.fp_io.proofs.Fronts.{appends_more, appends_front, front_after}
+use Rattle.fp_io.specs.Content.{AppendsPrefix}
+use Rattle.fp_io.proofs.Prefixes.{appends_more, appends_prefix, prefix_after}
 use Rattle.fp_ports.specs.PluggedPorts.{Row}
 use Rattle.rv_exec.specs.declared.outcome.Effect.{Effect}
 use Rattle.rv_exec.specs.declared.outcome.Event.{Event}
@@ -199,7 +199,7 @@ stopped_at : EventsGrow → (s : Start) (n i : ℕ) (first : List (Option Row)) 
     (new : List (Option Row)) (before between after : Option (List ℕ)) (line : List ℕ) →
     0 < m.at → m.at ≤ n → line ≡ text (of_thread i (retires s (m.at - 1))) →
     Refines s m.at n m new → Appends before between (text (events s i (m.at - 1))) →
-    AppendsFront between after line → AreLeft first new →
+    AppendsPrefix between after line → AreLeft first new →
     Stopped s n i first m new before after
 stopped_at grows s n i first m new before between after line some within is st put part left =
     let prior : List ℕ = text (events s i (m.at - 1)) in
@@ -212,11 +212,12 @@ stopped_at grows s n i first m new before between after line some within is st p
     let end : n ≡ m.at + (n - m.at) = omega (arith, within) in
     let whole : text (events s i n) ≡ (prior ++ line) ++ rest =
     ap (λ d. text (events s i d)) end ∙ goes ∙ ap (λ xs. xs ++ rest) grown in
-    let Front : List ℕ → Type 0 = λ xs. AppendsFront before after xs in
+    let Front : List ℕ → Type 0 = λ xs. AppendsPrefix before after xs in
     record {
-      put = appends_front before between after prior line rest (text (events s i n)) whole put part;
+      put = appends_prefix before between after prior line rest (text (events s i n))
+          whole put part;
       before_last = beyond before between after prior line put part;
-      with_last = subst Front (sym grown) (front_after before between after prior line put part);
+      with_last = subst Front (sym grown) (prefix_after before between after prior line put part);
       within = within;
       refines = st;
       left = left;

@@ -20,13 +20,13 @@ use Rattle.timer_unit.specs.Time.{no_timer}
 use Rattle.core_model.specs.World.{Start, start_world}
 use Rattle.setup_model.specs.Start.{start, words_from, thread_setup_of, is_handed, first_latch}
 use Rattle.pipe_model.specs.Stages.{StageRegisters, State}
-use Rattle.pipe_model.specs.Relation.{Begins, Refines as PipelineRefines, HasLatches}
+use Rattle.pipe_model.specs.Relation.{Begins, PipelineRefines, HasLatches}
 use Rattle.pipe_model.specs.PipelineLaws.{StartRefines, empty, first_units}
 use Rattle.pipeline_core.specs.Abstraction.{abstract_stages, abstract_state}
 use Rattle.machine.specs.DumpedState.{is_port_left}
 use Rattle.machine.specs.FieldRelation.{Plugged, port_read}
 use Rattle.machine.specs.declared.state.Machine.{Machine}
-use Rattle.machine.specs.WorldRelation.{Refines, start_beside, units_at_start}
+use Rattle.machine.specs.WorldRelation.{Refines, start_with_ports, units_at_start}
 
 -- eight entries, one by one
 pub eight_are : {A : Type 0} → (xs : List A) (d : A) → length xs ≡ 8 →
@@ -68,7 +68,7 @@ all_same f xs v eight same =
 
 pub units-start : (s : Settings) (image : List Segment) (ports : List (Option Row)) (n : ℕ) →
     length s.threads ≡ 8 →
-    first_units (start_beside s image ports n) ports ≡ units_at_start s image ports
+    first_units (start_with_ports s image ports n) ports ≡ units_at_start s image ports
 unfolding start
 units-start s image ports n eight =
     let bank = all_same (λ (t : Thread). t.regs) s.threads (replicate 31 0) eight (λ entry. refl) in
@@ -84,7 +84,7 @@ entries-are [] = refl
 entries-are (t ∷ xs) = ap (λ (ys : List ℕ). t.entry ∷ ys) (entries-are xs)
 
 begins : (s : Settings) (image : List Segment) (ports : List (Option Row)) (n : ℕ) →
-    length s.threads ≡ 8 → length ports ≡ 8 → Begins (start_beside s image ports n)
+    length s.threads ≡ 8 → length ports ≡ 8 → Begins (start_with_ports s image ports n)
 unfolding start
 begins s image ports n eight eight_ports = record {
   eight = length-map s.threads (λ (t : ThreadSetup). fresh t.entry) ∙ eight;
@@ -99,7 +99,7 @@ latch-first None = tt
 latch-first (Some r) = refl
 
 latches : (s : Settings) (image : List Segment) (ports : List (Option Row)) (n : ℕ) →
-    HasLatches (start_world (start_beside s image ports n)) ports
+    HasLatches (start_world (start_with_ports s image ports n)) ports
 unfolding start
 latches s image ports n k below =
     rw (get_or-map first_latch ports k None) (latch-first (row_at ports k))
@@ -120,7 +120,7 @@ found-is None unplug at = go (is_gone unplug at) 0xFFFFFFFF
 found-is (Some r) unplug at = refl
 
 plugged : (s : Settings) (image : List Segment) (ports : List (Option Row)) (n : ℕ) →
-    Plugged (start_beside s image ports n) 0 n ports
+    Plugged (start_with_ports s image ports n) 0 n ports
 unfolding start
 plugged s image ports n = record {
   there =
@@ -139,12 +139,12 @@ plugged s image ports n = record {
 }
 
 unplugs-are : (s : Settings) (image : List Segment) (ports : List (Option Row)) (n : ℕ) →
-    map (λ (t : ThreadSetup). t.unplug) s.threads ≡ (start_beside s image ports n).unplugs
+    map (λ (t : ThreadSetup). t.unplug) s.threads ≡ (start_with_ports s image ports n).unplugs
 unfolding start
 unplugs-are s image ports n = refl
 
 pcs-are : (s : Settings) (image : List Segment) (ports : List (Option Row)) (n : ℕ) →
-    map (λ (t : Thread). t.pc) (start_beside s image ports n).threads
+    map (λ (t : Thread). t.pc) (start_with_ports s image ports n).threads
     ≡ map (λ (t : ThreadSetup). t.entry) s.threads
 unfolding start
 pcs-are s image ports n = entries-are s.threads
@@ -155,9 +155,9 @@ pub loaded : StartRefines → (s : Settings) (image : List Segment) (ports : Lis
     entries ≡ map (λ (t : ThreadSetup). t.entry) s.threads →
     abstract_state m.units ports ≡ units_at_start s image ports →
     m.at ≡ 0 → m.unplugs ≡ map (λ (t : ThreadSetup). t.unplug) s.threads →
-    Refines (start_beside s image ports n) 0 n m ports
+    Refines (start_with_ports s image ports n) 0 n m ports
 loaded starts s image ports n m entries eight eight_ports pipe of_entries units at plan =
-    let w : Start = start_beside s image ports n in
+    let w : Start = start_with_ports s image ports n in
     let b : Begins w = begins s image ports n eight eight_ports in
     let first : PipelineRefines w 0 (empty (map (λ (t : Thread). t.pc) w.threads))
     (first_units w ports) = starts w ports b (latches s image ports n) in

@@ -2,7 +2,7 @@
 use Rattle.std.proofs.Common.{◌≡◌, ℕ, zero, suc, ◌+◌, ◌-◌, ◌<◌, ◌≤◌, List, ◌++◌, Option}
 use Rattle.std.proofs.Common.{None, ap, ap₂, sym, subst, ◌∙◌, arith, add-zero}
 use Rattle.std.specs.Io.KnownBytes.{Appends}
-use Rattle.fp_io.proofs.Fronts.{appends_nothing, appends_more}
+use Rattle.fp_io.proofs.Prefixes.{appends_nothing, appends_more}
 use Rattle.core_model.specs.World.{Start}
 use Rattle.machine.specs.Observing.{Acts, HasSeen, next_with, observer_after, puts_in, puts_with}
 use Rattle.machine.specs.Observing.{retires}

@@ -6,8 +6,8 @@ use Rattle.std.specs.List.{range_with_len}
 use Rattle.std.proofs.lemmas.List.{append-nil}
 use Rattle.std.proofs.lemmas.Grind.{flat_map-append}
 use Rattle.std.specs.Io.KnownBytes.{Appends}
-use Rattle.fp_io.specs.Content.{AppendsFront}
-use Rattle.fp_io.proofs.Fronts.{appends_more, appends_front}
+use Rattle.fp_io.specs.Content.{AppendsPrefix}
+use Rattle.fp_io.proofs.Prefixes.{appends_more, appends_prefix}
 
 split : (a n m : ℕ) → range_with_len a (n + m) ≡ range_with_len a n ++ range_with_len (a + n) m
 split a zero m =
@@ -37,8 +37,8 @@ line_taken before between after line k first second =
 -- a line was written in part
 pub line_begun : (before between after : Option (List ℕ)) (line : ℕ → List ℕ) (k n : ℕ) →
     k < n → Appends before between (flat_map line (range_with_len 0 k)) →
-    AppendsFront between after (line k) →
-    AppendsFront before after (flat_map line (range_with_len 0 n))
+    AppendsPrefix between after (line k) →
+    AppendsPrefix before after (flat_map line (range_with_len 0 n))
 line_begun before between after line k n within first second =
     let m : ℕ = n - (k + 1) in
     let all : n ≡ k + 1 + m = omega arith in
@@ -47,6 +47,6 @@ line_begun before between after line k n within first second =
     ap (λ i. flat_map line (range_with_len 0 i)) all ∙ ap (flat_map line) (split 0 (k + 1) m)
     ∙ flat_map-append line (range_with_len 0 (k + 1)) (range_with_len (0 + (k + 1)) m)
     ∙ ap (λ xs. xs ++ flat_map line (range_with_len (0 + (k + 1)) m)) (next_line line k) in
-    appends_front before between after (flat_map line (range_with_len 0 k))
+    appends_prefix before between after (flat_map line (range_with_len 0 k))
     (line k) (flat_map line (range_with_len (0 + (k + 1)) m))
     (flat_map line (range_with_len 0 n)) whole first second

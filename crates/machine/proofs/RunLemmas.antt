@@ -6,14 +6,14 @@ use Rattle.std.specs.Prelude.{if◌then◌else◌}
 use Rattle.std.proofs.lemmas.List.{append-nil}
 use Rattle.std.proofs.lemmas.Grind.{flat_map-append}
 use Rattle.std.specs.Io.KnownBytes.{Appends}
-use Rattle.fp_io.specs.Content.{AppendsFront}
+use Rattle.fp_io.specs.Content.{AppendsPrefix}
 use Rattle.fp_ports.specs.PluggedPorts.{Row, row_at}
 use Rattle.rv_exec.specs.declared.outcome.Event.{Event}
 use Rattle.trace_print.specs.Text.{line_text, text}
 use Rattle.core_model.specs.World.{Start, recent, world, events}
 use Rattle.pipe_model.specs.Stages.{StageRegisters, Ticked, step}
 use Rattle.pipe_model.proofs.Keeping.{keeps}
-use Rattle.pipe_model.specs.Relation.{Begins, PortsRefine, Refines as PipelineRefines, RefinesNext}
+use Rattle.pipe_model.specs.Relation.{Begins, PortsRefine, PipelineRefines, RefinesNext}
 use Rattle.pipe_model.specs.Relation.{event_in, turn_at, of_thread, port_words, stays_in}
 use Rattle.pipe_model.specs.PipelineLaws.{EventsGrow}
 use Rattle.pipeline_core.specs.Abstraction.{abstract_stages, abstract_state, registers_in}
@@ -27,7 +27,7 @@ use Rattle.machine.proofs.PortLemmas.{unplugs, goes_on, kept-row}
 use Rattle.machine.specs.declared.state.Machine.{Machine}
 use Rattle.machine.specs.WorldRelation.{Refines, RefinesWith, IsLeft, AreLeft, Ticks, TicksWith}
 use Rattle.machine.specs.WorldRelation.{AppendsBeyond, HasRun}
-use Rattle.fp_io.proofs.Fronts.{appends_nothing}
+use Rattle.fp_io.proofs.Prefixes.{appends_nothing}
 
 left_words : (before after : Option Row) (stays : Bool) →
     port_words after ≡ port_words (if stays then before else None) → IsLeft before after
@@ -142,7 +142,7 @@ run_begins s n thread m rows prior st =
 
 -- bytes, and then a prefix of others
 pub beyond : (before between now : Option (List ℕ)) (xs ys : List ℕ) → Appends before between xs →
-    AppendsFront between now ys → AppendsBeyond before now xs
+    AppendsPrefix between now ys → AppendsBeyond before now xs
 beyond None between now xs ys first second = tt
 beyond (Some prior) None now xs ys first second = absurd first
 beyond (Some prior) (Some more) None xs ys first second = absurd second

@@ -27,7 +27,7 @@ use Rattle.pipe_model.specs.Stages.{bank_after, decode_stage, execute_stage, fet
 use Rattle.pipe_model.specs.Stages.{finish, memory_stage, ports_stored, next_after_redirect}
 use Rattle.pipe_model.specs.Stages.{retired_event, step, words_stored, writeback_stage}
 use Rattle.pipe_model.specs.Relation.{Begins, RefinesNext, PortsRefine}
-use Rattle.pipe_model.specs.Relation.{Refines as PipelineRefines, event_in, turn_at}
+use Rattle.pipe_model.specs.Relation.{PipelineRefines, event_in, turn_at}
 use Rattle.pipe_model.specs.PipelineLaws.{empty}
 use Rattle.pipe_model.proofs.Keeping.{keeps}
 use Rattle.pipeline_core.specs.Abstraction.{abstract_state, registers_in}

@@ -22,7 +22,7 @@ abbrev pub fed_all : Settings → List (Option Row) → List (Option Row)
 fed_all s ports = fed_first s ports 8
 
 -- a prefix of the inputs was fed: all of the first threads, and the first ones of the next thread
-abbrev pub IsFedFront : Settings → List (Option Row) → List (Option Row) → Type 0
-IsFedFront s before after =
+abbrev pub IsFedPrefix : Settings → List (Option Row) → List (Option Row) → Type 0
+IsFedPrefix s before after =
     (k : ℕ) × (j : ℕ)
     × (after ≡ fed_words k (fed_first s before k) (take j (thread_setup_of s k).inputs))

@@ -3,7 +3,7 @@ use Rattle.std.specs.Prelude.{◌≡◌, ℕ, suc, ◌+◌, ◌<◌, List, lengt
 use Rattle.core_model.specs.World.{Start}
 use Rattle.core_model.specs.Cycles.{cycles_to_m}
 use Rattle.pipe_model.specs.Stages.{StageRegisters, State, Ticked}
-use Rattle.pipe_model.specs.Relation.{Refines, PortsRefine, RefinesNext}
+use Rattle.pipe_model.specs.Relation.{PipelineRefines, PortsRefine, RefinesNext}
 use Rattle.machine.specs.DumpedState.{seen}
 use Rattle.machine.specs.Fields.{dump_of}
 use Rattle.machine.specs.FieldRelation.{FieldsRefine, ports_left_in}
@@ -15,7 +15,7 @@ with_ports_left u c unplugs = record u { ports = ports_left_in unplugs c u.ports
 -- without the ports that are due, the fields still refine the cycle, and the ports are as the
 -- pipeline reads them
 pub record Unplugged (s : Start) (c : ℕ) (p : StageRegisters) (u : State) : Type 0 where
-  pub refines : Refines s c p u
+  pub refines : PipelineRefines s c p u
   pub shows : PortsRefine s c u.ports
 
 -- removing the ports that are due keeps the refinement

@@ -7,7 +7,7 @@ use Rattle.fp_ports.specs.ShownWords.{is_gone}
 use Rattle.core_model.specs.Cycles.{cycles_to_m}
 use Rattle.core_model.specs.World.{Start, port_word}
 use Rattle.pipe_model.specs.Stages.{StageRegisters, State}
-use Rattle.pipe_model.specs.Relation.{Refines, Begins, stays_in}
+use Rattle.pipe_model.specs.Relation.{PipelineRefines, Begins, stays_in}
 use Rattle.machine.specs.DumpedState.{is_port_left}
 
 -- the word that a thread's issue of a cycle reads at its port
@@ -27,7 +27,7 @@ pub record Plugged (s : Start) (c n : ℕ) (ports : List (Option Row)) : Type 0 
 pub record FieldsRefine (s : Start) (c n : ℕ) (p : StageRegisters) (u : State) (at : ℕ)
     (unplugs : List (Option ℕ)) : Type 0 where
   pub begins : Begins s
-  pub refines : Refines s c p u
+  pub refines : PipelineRefines s c p u
   pub cycle : at ≡ c
   pub due : unplugs ≡ s.unplugs
   pub ports : Plugged s c n u.ports

@@ -18,7 +18,7 @@ pub use Rattle.fp_io.specs.Content
 pub use Rattle.fp_ports.specs.PluggedPorts
 pub use Rattle.pipe_model.specs.Stages
 pub use Rattle.pipeline_core.specs.StageFacts
-pub use Rattle.run_laws.specs.TraceLaws
+pub use Rattle.isolation.specs.TraceLaws
 pub use Rattle.timer_unit.specs.Time
 pub use Rattle.trace_print.specs.Text
 pub use Rattle.core_model.specs.World

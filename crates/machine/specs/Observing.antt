@@ -2,7 +2,7 @@
 use Rattle.std.specs.Prelude.{◌≡◌, ℕ, zero, suc, ◌+◌, ◌-◌, ◌<◌, ◌≤◌, Option, Some, None}
 use Rattle.std.specs.Prelude.{List, [], ◌++◌}
 use Rattle.std.specs.Io.KnownBytes.{Appends}
-use Rattle.fp_io.specs.Content.{AppendsFront}
+use Rattle.fp_io.specs.Content.{AppendsPrefix}
 use Rattle.rv_exec.specs.declared.outcome.Event.{Event}
 use Rattle.core_model.specs.Cycles.{cycles_to_w}
 use Rattle.core_model.specs.World.{Start}
@@ -57,4 +57,4 @@ pub record SawInPart {O : Type 0} (acts : Acts O) (s : Start) (c d : ℕ) (first
   pub last : O
   pub between : Option (List ℕ)
   pub earlier : HasSeen acts s c (d - 1) first last before between
-  pub part : AppendsFront between after (puts_with acts last (retires s (d - 1)))
+  pub part : AppendsPrefix between after (puts_with acts last (retires s (d - 1)))

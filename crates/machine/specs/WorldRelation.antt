@@ -2,7 +2,7 @@
 use Rattle.std.specs.Prelude.{◌≡◌, ℕ, suc, ◌-◌, ◌<◌, ◌≤◌, false, ◌&&◌, if◌then◌else◌, List}
 use Rattle.std.specs.Prelude.{[], ◌++◌, slice_index_or, map, replicate, Option, Some, None, ⊤}
 use Rattle.std.specs.Io.KnownBytes.{Appends}
-use Rattle.fp_io.specs.Content.{AppendsFront}
+use Rattle.fp_io.specs.Content.{AppendsPrefix}
 use Rattle.trace_print.specs.Text.{text}
 use Rattle.rv_exec.specs.declared.outcome.Event.{Event}
 use Rattle.fp_image.specs.declared.parts.Segment.{Segment}
@@ -34,8 +34,8 @@ abbrev pub Refines : Start → ℕ → ℕ → Machine → List (Option Row) →
 Refines s c n m ports = RefinesWith s c n (abstract_stages m.pipe) m ports
 
 -- the start of a run of n cycles with ports that were fed already
-abbrev pub start_beside : Settings → List Segment → List (Option Row) → ℕ → Start
-start_beside s image ports n = record (start s image ports n) {
+abbrev pub start_with_ports : Settings → List Segment → List (Option Row) → ℕ → Start
+start_with_ports s image ports n = record (start s image ports n) {
   shown = map (λ i. shown (row_at ports i) [] (thread_setup_of s i).unplug n) the_threads;
 }
 
@@ -85,9 +85,9 @@ AppendsBeyond (Some xs) (Some ys) bytes = (rest : List ℕ) × (ys ≡ (xs ++ by
 -- of all these cycles, and begin with the text of all but the last.
 pub record Stopped (s : Start) (n thread : ℕ) (first : List (Option Row)) (m : Machine)
     (ports : List (Option Row)) (before after : Option (List ℕ)) : Type 0 where
-  pub put : AppendsFront before after (text (events s thread n))
+  pub put : AppendsPrefix before after (text (events s thread n))
   pub before_last : AppendsBeyond before after (text (events s thread (m.at - 1)))
-  pub with_last : AppendsFront before after (text (events s thread m.at))
+  pub with_last : AppendsPrefix before after (text (events s thread m.at))
   pub within : m.at ≤ n
   pub refines : Refines s m.at n m ports
   pub left : AreLeft first ports

@@ -2,8 +2,8 @@
 
 ghost use Rattle.std.specs.Prelude.{◌≡◌, ℕ, ◌+◌, ◌/◌, ◌<◌, ◌≤◌, [], vec_len, OnOk, OnErr};
 ghost use Rattle.std.specs.Io.KnownBytes.{Appends};
-ghost use Rattle.fp_io.specs.Causes.{Rose};
-ghost use Rattle.fp_io.specs.Content.{AppendsFront};
+ghost use Rattle.fp_io.specs.Causes.{HasRisen};
+ghost use Rattle.fp_io.specs.Content.{AppendsPrefix};
 ghost use Rattle.fp_ports.specs.PluggedPorts.{rows_of};
 ghost use Rattle.core_model.specs.World.{Start};
 ghost use Rattle.machine.specs.DumpedState.{seen};
@@ -32,8 +32,8 @@ impl Machine {
             → Appends (K.taken out.old) (K.taken out.new) (seen s c)) }
         ensures err { OnErr result ((s : Start) (c n : ℕ)
             → Refines s c n self.now (rows_of latched word_at ports.now.items)
-            → AppendsFront (K.taken out.old) (K.taken out.new) (seen s c)) }
-        ensures failed { OnErr result (Rose (K.faults out.old) (K.faults out.new)) }
+            → AppendsPrefix (K.taken out.old) (K.taken out.new) (seen s c)) }
+        ensures failed { OnErr result (HasRisen (K.faults out.old) (K.faults out.new)) }
         ensures counted { K.faults out.old ≤ K.faults out.new }
     {
         self.put_lines(ports, out)
@@ -44,9 +44,9 @@ impl Machine {
         requires { vec_len ports.now ≡ 8 }
         ensures ok { OnOk result (Appends (K.taken out.old) (K.taken out.new)
             (text_of self.now (rows_of latched word_at ports.now.items))) }
-        ensures err { OnErr result (AppendsFront (K.taken out.old) (K.taken out.new)
+        ensures err { OnErr result (AppendsPrefix (K.taken out.old) (K.taken out.new)
             (text_of self.now (rows_of latched word_at ports.now.items))) }
-        ensures failed { OnErr result (Rose (K.faults out.old) (K.faults out.new)) }
+        ensures failed { OnErr result (HasRisen (K.faults out.old) (K.faults out.new)) }
         ensures counted { K.faults out.old ≤ K.faults out.new }
     {
         for number in 0..FIRST_OF_MEMORY + self.units.guard.size / 32 {
@@ -61,9 +61,9 @@ impl Machine {
         requires number { number < first_of_memory + self.now.units.guard.size / 32 }
         ensures ok { OnOk result (Appends (K.taken out.old) (K.taken out.new)
             (line_of self.now (rows_of latched word_at ports.now.items) number)) }
-        ensures err { OnErr result (AppendsFront (K.taken out.old) (K.taken out.new)
+        ensures err { OnErr result (AppendsPrefix (K.taken out.old) (K.taken out.new)
             (line_of self.now (rows_of latched word_at ports.now.items) number)) }
-        ensures failed { OnErr result (Rose (K.faults out.old) (K.faults out.new)) }
+        ensures failed { OnErr result (HasRisen (K.faults out.old) (K.faults out.new)) }
         ensures counted { K.faults out.old ≤ K.faults out.new }
         ensures nothing { line_of self.now (rows_of latched word_at ports.now.items) number ≡ []
             → out.new ≡ out.old }

@@ -2,7 +2,7 @@
 
 ghost use Rattle.std.specs.Prelude.{◌≡◌, ◌<◌, ◌≤◌, length, take, vec_len, OnOk, OnErr};
 ghost use Rattle.fp_ports.specs.PluggedPorts.{rows_of};
-ghost use Rattle.machine.specs.Feeding.{fed_words, fed_all, IsFedFront};
+ghost use Rattle.machine.specs.Feeding.{fed_words, fed_all, IsFedPrefix};
 ghost use Rattle.machine.specs.PortLaws.{FeedsStart};
 
 use fp_ports::{Ports, feed_port};
@@ -19,7 +19,7 @@ pub fn feed_inputs(setup: &Setup, ports: &mut Ports) -> Result<(), AllocError>
     requires { vec_len ports.old ≡ 8 }
     ensures ok { OnOk result (rows_of latched word_at ports.new.items
         ≡ fed_all setup.now (rows_of latched word_at ports.old.items)) }
-    ensures err { OnErr result (IsFedFront setup.now (rows_of latched word_at ports.old.items)
+    ensures err { OnErr result (IsFedPrefix setup.now (rows_of latched word_at ports.old.items)
         (rows_of latched word_at ports.new.items)) }
     ensures eight { vec_len ports.new ≡ 8 }
 {

@@ -19,10 +19,10 @@ mod unseen;
 
 pub use feeding::{feed_inputs, feeds_the_start};
 pub use field_laws::{dumps_what_is_seen, goes_on, unplugs_ports};
-pub use observer::Observer;
-pub use run_laws::setup_traces::{
+pub use isolation::setup_traces::{
     stays_quiet, traces_alone, traces_by_phases, traces_by_wide_view, writes_equal_traces,
 };
+pub use observer::Observer;
 pub use running::leaves_ports;
 pub use sleeping::sleeps_on;
 pub use state::Machine;

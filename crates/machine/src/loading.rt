@@ -8,7 +8,7 @@ ghost use Rattle.fp_setup.specs.Settings.{size_of};
 ghost use Rattle.setup_model.specs.Start.{words_from};
 ghost use Rattle.pipeline_core.specs.StageFacts.{IsPc};
 ghost use Rattle.pipeline_core.specs.Abstraction.{abstract_state};
-ghost use Rattle.machine.specs.WorldRelation.{Refines, start_beside, units_at_start};
+ghost use Rattle.machine.specs.WorldRelation.{Refines, start_with_ports, units_at_start};
 
 use crate::state::Machine;
 use fp_image::Image;
@@ -143,7 +143,7 @@ impl Machine {
     pub fn load(alloc: Global, setup: &Setup, image: &Image) -> Result<Machine, AllocError>
         ensures refines { IfOk result
             (λ m. (ports : List (Option Row)) (n : ℕ) → length ports ≡ 8
-            → Refines (start_beside setup.now image.now ports n) 0 n m ports) }
+            → Refines (start_with_ports setup.now image.now ports n) 0 n m ports) }
         ensures start { IfOk result (λ m. m.at ≡ 0) }
     {
         start_refines();

@@ -3,8 +3,8 @@
 ghost use Rattle.std.specs.Prelude.{◌≡◌, ◌<◌, ◌≤◌, OnOk, OnErr, [], true, is_some};
 ghost use Rattle.std.specs.Prelude.{if◌then◌else◌};
 ghost use Rattle.std.specs.Io.KnownBytes.{Appends};
-ghost use Rattle.fp_io.specs.Causes.{Rose};
-ghost use Rattle.fp_io.specs.Content.{AppendsFront};
+ghost use Rattle.fp_io.specs.Causes.{HasRisen};
+ghost use Rattle.fp_io.specs.Content.{AppendsPrefix};
 ghost use Rattle.timer_unit.specs.Time.{most_cycles};
 ghost use Rattle.pipeline_core.specs.Retiring.{retired_in};
 ghost use Rattle.pipeline_core.specs.Turns.{held};
@@ -39,8 +39,8 @@ pub trait Observer {
     fn write<K: Sink>(&self, out: &mut K) -> Result<(), PutFailed>
         ensures ok { OnOk result (Appends (K.taken out.old) (K.taken out.new)
             (acts.ready self.now)) }
-        ensures err { OnErr result (AppendsFront (K.taken out.old) (K.taken out.new)
+        ensures err { OnErr result (AppendsPrefix (K.taken out.old) (K.taken out.new)
             (acts.ready self.now)) }
-        ensures failed { OnErr result (Rose (K.faults out.old) (K.faults out.new)) }
+        ensures failed { OnErr result (HasRisen (K.faults out.old) (K.faults out.new)) }
         ensures counted { K.faults out.old ≤ K.faults out.new };
 }

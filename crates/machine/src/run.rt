@@ -2,7 +2,7 @@
 
 ghost use Rattle.std.specs.Prelude.{◌≡◌, ℕ, ◌+◌, ◌-◌, ◌<◌, ◌≤◌, true, List, Option, None, []};
 ghost use Rattle.std.specs.Prelude.{OnOk, OnErr, IfSome, vec_len, if◌then◌else◌};
-ghost use Rattle.fp_io.specs.Causes.{Rose};
+ghost use Rattle.fp_io.specs.Causes.{HasRisen};
 ghost use Rattle.timer_unit.specs.Time.{most_cycles};
 ghost use Rattle.fp_ports.specs.PluggedPorts.{rows_of};
 ghost use Rattle.core_model.specs.Cycles.{cycles_to_m, cycles_to_w};
@@ -175,7 +175,7 @@ impl Run<'_> {
         ensures runs { RunsOn O.acts end result self.old self.new
             (rows_of latched word_at ports.old.items) (rows_of latched word_at ports.new.items)
             observer.old observer.new (K.taken out.old) (K.taken out.new) }
-        ensures failed { OnErr result (Rose (K.faults out.old) (K.faults out.new)) }
+        ensures failed { OnErr result (HasRisen (K.faults out.old) (K.faults out.new)) }
         ensures counted { K.faults out.old ≤ K.faults out.new }
         ensures on { self.old.machine.now.at < self.new.machine.now.at }
         ensures eight { vec_len ports.new ≡ 8 }
@@ -206,7 +206,7 @@ impl Run<'_> {
         ensures runs { RunsOn O.acts end result self.old self.new
             (rows_of latched word_at ports.old.items) (rows_of latched word_at ports.new.items)
             observer.old observer.new (K.taken out.old) (K.taken out.new) }
-        ensures failed { OnErr result (Rose (K.faults out.old) (K.faults out.new)) }
+        ensures failed { OnErr result (HasRisen (K.faults out.old) (K.faults out.new)) }
         ensures counted { K.faults out.old ≤ K.faults out.new }
         ensures cycles { OnOk result (self.new.machine.now.at ≡ end) }
         ensures eight { vec_len ports.new ≡ 8 }
@@ -322,7 +322,7 @@ impl Machine {
             → Refines s self.new.at n self.new (rows_of latched word_at ports.new.items)
             × SawInPart O.acts s self.old.at self.new.at observer.old (K.taken out.old)
             (K.taken out.new)) }
-        ensures failed { OnErr result (Rose (K.faults out.old) (K.faults out.new)) }
+        ensures failed { OnErr result (HasRisen (K.faults out.old) (K.faults out.new)) }
         ensures counted { K.faults out.old ≤ K.faults out.new }
         ensures cycles { OnOk result (self.new.at ≡ end) }
         ensures end { self.new.at ≤ end }

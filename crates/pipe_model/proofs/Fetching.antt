@@ -20,7 +20,8 @@ use Rattle.pipe_model.specs.declared.stage_registers.Redirect.{Redirect}
 use Rattle.pipe_model.specs.Forwarding.{operand}
 use Rattle.pipe_model.specs.Stages.{StageRegisters, State, decode_stage, flushes_d}
 use Rattle.pipe_model.specs.Relation.{turn_at, in_memory, in_execute, in_decode, in_fetch}
-use Rattle.pipe_model.specs.Relation.{decoded_in, pick_in, bank_in, control_in, Begins, Refines}
+use Rattle.pipe_model.specs.Relation.{decoded_in, pick_in, bank_in, control_in, Begins}
+use Rattle.pipe_model.specs.Relation.{PipelineRefines}
 use Rattle.pipe_model.specs.StageView.{FetchHolds}
 use Rattle.pipe_model.proofs.Moved.{eight}
 use Rattle.pipe_model.proofs.Late.{redirect_in}
@@ -73,7 +74,8 @@ pc-of s n w after t k pc word effect turned e =
     subst (λ (x : Took). Turned s n w x after) e turned in
     does.pc_is
 
-pub holds : (s : Start) (c : ℕ) (p : StageRegisters) (u : State) → Begins s → Refines s c p u →
+pub holds : (s : Start) (c : ℕ) (p : StageRegisters) (u : State) → Begins s →
+    PipelineRefines s c p u →
     FetchHolds s p.f (turn_at s c 0)
 holds s c p u begins refines = record {
   flushed =

@@ -24,7 +24,7 @@ use Rattle.pipe_model.specs.Stages.{next_after_redirect, next_after_fetch, finis
 use Rattle.pipe_model.specs.Relation.{turn_at, in_write, in_memory, in_execute, in_decode}
 use Rattle.pipe_model.specs.Relation.{in_fetch, pick_in, issues, next_of, bank_in, control_in}
 use Rattle.pipe_model.specs.Relation.{units_of, stage_registers_of, Fronts, HasLatches}
-use Rattle.pipe_model.specs.Relation.{Refines, PortsRefine, Begins, event_in, RefinesNext}
+use Rattle.pipe_model.specs.Relation.{PipelineRefines, PortsRefine, Begins, event_in, RefinesNext}
 use Rattle.pipe_model.proofs.Moved.{Moves, eight, equals, moved, soon_lagging}
 use Rattle.pipe_model.proofs.Late.{writes, stored-is, stores-is}
 use Rattle.pipe_model.proofs.Late.{execute_stage-is, redirect_in, after_in}
@@ -312,7 +312,7 @@ module _ (s : Start) (c : ℕ) (begins : Begins s) where
 
 -- the whole cycle
 pub keeps : (s : Start) (c : ℕ) (p : StageRegisters) (u : State) → Begins s →
-    PortsRefine s c u.ports → Refines s c p u → RefinesNext s c u.ports (step p u c)
+    PortsRefine s c u.ports → PipelineRefines s c p u → RefinesNext s c u.ports (step p u c)
 keeps s c p u begins shows refines =
     let P : StageRegisters → State → Type 0 = λ x y. RefinesNext s c u.ports (step x y c) in
     let Q : StageRegisters → Type 0 = λ x. Fronts s c x.f p.next in

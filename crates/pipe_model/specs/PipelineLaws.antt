@@ -6,7 +6,7 @@ use Rattle.pipe_model.specs.declared.stage_registers.Held.TheVariants.{Bubble}
 use Rattle.pipe_model.specs.Stages.{StageRegisters, State, step}
 use Rattle.pipe_model.specs.Contents.{Contents}
 use Rattle.pipe_model.specs.StageView.{Shown}
-use Rattle.pipe_model.specs.Relation.{Refines, PortsRefine, Begins, RefinesNext, HasLatches}
+use Rattle.pipe_model.specs.Relation.{PipelineRefines, PortsRefine, Begins, RefinesNext, HasLatches}
 use Rattle.pipe_model.specs.Relation.{bank_in, control_in, turn_at, event_in, of_thread}
 use Rattle.core_model.specs.Cycles.{cycles_to_w}
 
@@ -14,7 +14,7 @@ use Rattle.core_model.specs.Cycles.{cycles_to_w}
 abbrev pub StepRefines : Type 0
 StepRefines =
     (s : Start) (c : ℕ) (p : StageRegisters) (u : State) → Begins s → PortsRefine s c u.ports →
-    Refines s c p u → RefinesNext s c u.ports (step p u c)
+    PipelineRefines s c p u → RefinesNext s c u.ports (step p u c)
 
 -- empty stage registers, with the pcs that the threads fetch next
 abbrev pub empty : List ℕ → StageRegisters
@@ -40,13 +40,13 @@ first_units s ports =
 abbrev pub StartRefines : Type 0
 StartRefines =
     (s : Start) (ports : List (Option Row)) → Begins s → HasLatches (start_world s) ports →
-    Refines s 0 (empty (map (λ t. t.pc) s.threads)) (first_units s ports)
+    PipelineRefines s 0 (empty (map (λ t. t.pc) s.threads)) (first_units s ports)
 
 -- the refinement holds after a port is removed
 abbrev pub RefinesWithoutPort : Type 0
 RefinesWithoutPort =
-    (s : Start) (c : ℕ) (p : StageRegisters) (u : State) (k : ℕ) → Refines s c p u →
-    Refines s c p (record u { ports = slice_set u.ports k None })
+    (s : Start) (c : ℕ) (p : StageRegisters) (u : State) (k : ℕ) → PipelineRefines s c p u →
+    PipelineRefines s c p (record u { ports = slice_set u.ports k None })
 
 -- after each cycle a thread has its earlier events, followed by the event of the turn that retires,
 -- if the turn is its own
@@ -57,10 +57,11 @@ EventsGrow =
 
 -- stage registers that refine a cycle show its turns
 abbrev pub ShowsTurns : Type 0
-ShowsTurns = (s : Start) (c : ℕ) (p : StageRegisters) (u : State) → Refines s c p u → Shown s c p u
+ShowsTurns = (s : Start) (c : ℕ) (p : StageRegisters) (u : State) → PipelineRefines s c p u →
+    Shown s c p u
 
 -- and they hold the defined contents of these turns
 abbrev pub HoldsTurns : Type 0
 HoldsTurns =
-    (s : Start) (c : ℕ) (p : StageRegisters) (u : State) → Begins s → Refines s c p u →
+    (s : Start) (c : ℕ) (p : StageRegisters) (u : State) → Begins s → PipelineRefines s c p u →
     Contents s c p

@@ -178,7 +178,7 @@ HasLatches w ports =
     (k : ℕ) → k < 8 → IfSome (row_at ports k) (λ row. row.latch ≡ slice_index_or w.latches k 0)
 
 -- stage registers, units and ports refine cycle c of the world
-pub record Refines (s : Start) (c : ℕ) (p : StageRegisters) (u : State) : Type 0 where
+pub record PipelineRefines (s : Start) (c : ℕ) (p : StageRegisters) (u : State) : Type 0 where
   pub stage_registers : p ≡ stage_registers_of s c p.next
   pub fronts : Fronts s c p.f p.next
   pub units : u ≡ units_of s c u.ports
@@ -220,7 +220,7 @@ SamePorts before after = (k : ℕ) → port_words (row_at after k) ≡ port_word
 -- the state after a cycle refines the next one. The event is that of the issue in W, and the ports
 -- show the same words as before
 pub record RefinesNext (s : Start) (c : ℕ) (before : List (Option Row)) (t : Ticked) : Type 0 where
-  pub refines : Refines s (suc c) t.stage_registers t.state
+  pub refines : PipelineRefines s (suc c) t.stage_registers t.state
   pub event : t.event ≡ event_in (c - cycles_to_w) (turn_at s c 3)
   pub ports : SamePorts before t.state.ports
 

@@ -1,6 +1,6 @@
 -- The observation of one cycle of the machine: its state at the cycle's start, the turns in the
 -- stages, and the line of the picked turn's event.
-use Rattle.std.specs.Prelude.{ℕ, ◌≡◌, ◌+◌, ◌-◌, ◌<◌, ◌%◌, ◌==◌, ◌||◌, not, nat_lt}
+use Rattle.std.specs.Prelude.{ℕ, ◌≡◌, ◌+◌, ◌-◌, ◌<◌, ◌%◌, ◌==◌, ◌||◌, nat_lt}
 use Rattle.std.specs.Prelude.{Bool, true, false, List, [], ◌∷◌, map, slice_index_or}
 use Rattle.std.specs.Prelude.{Option, Some, None, option_map, length, slice_range, codes}
 use Rattle.std.specs.Str.{IsCharBoundary, trim_end}
@@ -13,12 +13,9 @@ use Rattle.pipe_model.specs.declared.stage_registers.Held.TheVariants.{Bubble, F
 use Rattle.pipe_model.specs.declared.stage_registers.Stored.{Stored}
 use Rattle.pipe_model.specs.Stages.{retired_event}
 use Rattle.slot_scheduler.specs.ModeWord.{mode_of}
-use Rattle.slot_table.specs.declared.frame.Turn.{Turn}
-use Rattle.slot_table.specs.declared.frame.Turn.TheVariants.{Thread}
 use Rattle.slot_table.specs.Frame.{turn}
 use Rattle.timer_unit.specs.Time.{time, timer_of}
 use Rattle.trace_print.specs.Text.{line_text}
-use Rattle.core_model.specs.Traps.{is_trap}
 use Rattle.core_model.specs.World.{Start}
 use Rattle.pipe_view.specs.declared.cycle.ThreadState.{ThreadState}
 use Rattle.pipe_view.specs.declared.cycle.Cycle.{Cycle}
@@ -69,16 +66,6 @@ is_flushed _ = false
 -- the turn that a cycle picked
 abbrev pub picked_turn : Cycle → Held Stored
 picked_turn cycle = slice_index_or cycle.turns 0 Bubble
-
--- whether a thread has a turn in the slot of another thread
-abbrev pub is_donated : Turn → Option ℕ → Bool
-is_donated (Thread owner) (Some k) = not (k == owner)
-is_donated _ _ = false
-
--- whether a turn traps, by its effect
-abbrev pub is_trapped_turn : Held Stored → Bool
-is_trapped_turn (Issue k x) = is_trap x.effect
-is_trapped_turn _ = false
 
 -- the column of the effect in a trace line
 abbrev pub effect_column : ℕ

@@ -1,19 +1,17 @@
 //! The observation of one cycle.
 
 ghost use Rattle.std.specs.Prelude.{◌≡◌, option_map};
-ghost use Rattle.pipe_view.specs.Watching.{IsOutcome, is_donated, is_flushed};
-ghost use Rattle.pipe_view.specs.Watching.{is_trapped_turn, picked_turn, turn_thread};
+ghost use Rattle.pipe_view.specs.Watching.{IsOutcome, is_flushed, picked_turn, turn_thread};
 
 use arrayvec::ArrayString;
 use pipeline_core::{Held, Stored};
-use rv_exec::Effect;
 use slot_table::Turn;
 
 /// The column of the effect in a trace line.
 const EFFECT_COLUMN: usize = 29;
 
 /// The state of a thread's mode, timer and port at the start of a cycle.
-#[derive(Clone, Copy)]
+#[derive(Clone, Copy, PartialEq, Eq)]
 pub struct ThreadState {
     /// Whether its mode is asleep, or its sleep moment is in the future.
     pub asleep: bool,
@@ -75,29 +73,6 @@ impl Cycle {
         ensures { result.now ≡ picked_turn self.now }
     {
         &self.turns[0]
-    }
-
-    /// Whether the picked turn is a soft thread's in the slot of another thread, which isn't awake.
-    pub fn is_donated(&self) -> bool
-        ensures { result ≡ is_donated self.now.start.slot (turn_thread (picked_turn self.now)) }
-    {
-        let Turn::Thread(owner) = self.start.slot else {
-            return false;
-        };
-        match thread_of(self.turn()) {
-            Some(thread) => thread != owner,
-            None => false,
-        }
-    }
-
-    /// Whether the picked turn traps.
-    pub fn is_trap(&self) -> bool
-        ensures { result ≡ is_trapped_turn (picked_turn self.now) }
-    {
-        match *self.turn() {
-            Held::Issue { what, .. } => matches!(what.effect, Some(Effect::Trap { .. })),
-            _ => false,
-        }
     }
 
     /// The outcome of the picked turn: the effect as in the trace; `held` if it waits at a DU and

@@ -1,16 +1,14 @@
 //! A line of text for each cycle.
 
-use crate::cycle::{Cycle, is_flushed, thread_of};
-use crate::view::Writing;
-use crate::window::Window;
+use crate::cycle::{Cycle, CycleStart, ThreadState, is_flushed, thread_of};
 use pipeline_core::{Held, Stored};
 use rv_disasm::text_at;
 use slot_table::Turn;
+use std::io;
 use std::io::Write;
-use std::{fmt, io};
 
 /// The name of a slot: `T0` to `T7`, `S` for the soft threads, `-` for none.
-pub(crate) fn slot_name(slot: Turn) -> &'static str {
+fn slot_name(slot: Turn) -> &'static str {
     match slot {
         Turn::Thread(0) => "T0",
         Turn::Thread(1) => "T1",
@@ -25,31 +23,98 @@ pub(crate) fn slot_name(slot: Turn) -> &'static str {
     }
 }
 
+/// The content of a line.
+#[derive(Clone, Copy, PartialEq, Eq)]
+pub enum OutputForm {
+    /// The turns of a cycle.
+    Turns,
+    /// The turns of a cycle, and the state at its start.
+    TurnsAndStates,
+}
+
 /// Lines of text: one that names the columns, and one for each cycle.
-#[derive(Clone, Copy)]
-pub struct Rows;
+#[derive(Drop)]
+pub(crate) struct Rows {
+    form: OutputForm,
+    /// The last start whose state was put, if there is one.
+    last: Option<CycleStart>,
+}
 
-impl Writing for Rows {
-    fn begin<W: Write>(out: &mut W, _window: &Window) -> io::Result<Rows> {
-        out.write_all(b"     cycle            ns slot  F  D  E  M  W  turn\n")?;
-        Ok(Rows)
+impl Rows {
+    /// Puts the line that names the columns. If states are put, the time of a cycle in nanoseconds
+    /// follows a tab.
+    ///
+    /// # Errors
+    ///
+    /// The writer's.
+    pub(crate) fn begin<W: Write>(out: &mut W, form: OutputForm, period: u64) -> io::Result<Rows> {
+        out.write_all(b"     cycle            ns slot  F  D  E  M  W  turn")?;
+        if form == OutputForm::TurnsAndStates {
+            write!(out, "\t{period}")?;
+        }
+        out.write_all(b"\n")?;
+        Ok(Rows { form, last: None })
     }
 
-    /// Puts the line of a cycle: its number, its time in nanoseconds, its slot, the thread in each
-    /// of the five stages, and its turn.
-    fn put<W: Write>(&mut self, out: &mut W, cycle: &Cycle) -> io::Result<()> {
-        let number = cycle.start.cycle;
-        let time = cycle.start.time;
-        let slot = slot_name(cycle.start.slot);
-        write!(out, "{number:>10} {time:>13} {slot:<4} ")?;
-        put_stages(out, &cycle.turns)?;
-        let turn = TurnText(cycle);
-        write!(out, " {turn}\n")
+    /// Puts the line of a cycle. If states are put, the state follows a tab, unless it is that of
+    /// the line before.
+    ///
+    /// # Errors
+    ///
+    /// The writer's.
+    pub(crate) fn put<W: Write>(&mut self, out: &mut W, cycle: &Cycle) -> io::Result<()> {
+        put_turns(out, cycle)?;
+        if self.form == OutputForm::TurnsAndStates && !self.has_put(&cycle.start) {
+            put_state(out, &cycle.start)?;
+            self.last = Some(cycle.start);
+        }
+        out.write_all(b"\n")
     }
 
-    fn end<W: Write>(self, _out: &mut W, _time: u64) -> io::Result<()> {
-        Ok(())
+    /// Whether the state of a start is the one that was put last.
+    fn has_put(&self, start: &CycleStart) -> bool {
+        match &self.last {
+            Some(last) => last.modes == start.modes && last.threads == start.threads,
+            None => false,
+        }
     }
+}
+
+/// Puts the turns of a cycle: its number, its time in nanoseconds, its slot, the thread in each of
+/// the five stages, and the picked turn.
+fn put_turns<W: Write>(out: &mut W, cycle: &Cycle) -> io::Result<()> {
+    let number = cycle.start.cycle;
+    let time = cycle.start.time;
+    let slot = slot_name(cycle.start.slot);
+    write!(out, "{number:>10} {time:>13} {slot:<4} ")?;
+    put_stages(out, &cycle.turns)?;
+    put_turn(out, cycle)
+}
+
+/// Puts a tab, the modes, and the state of each thread.
+fn put_state<W: Write>(out: &mut W, start: &CycleStart) -> io::Result<()> {
+    let modes = start.modes;
+    write!(out, "\t{modes:04x}")?;
+    for state in &start.threads {
+        put_thread(out, state)?;
+    }
+    Ok(())
+}
+
+/// Puts the state of a thread: 1 if it is asleep, its armed moment, its latch, and its input.
+fn put_thread<W: Write>(out: &mut W, state: &ThreadState) -> io::Result<()> {
+    let asleep = u8::from(state.asleep);
+    write!(out, " {asleep},")?;
+    match state.armed {
+        Some(moment) => write!(out, "{moment},")?,
+        None => out.write_all(b"-,")?,
+    }
+    match state.latch {
+        Some(word) => write!(out, "{word:08x},")?,
+        None => out.write_all(b"-,")?,
+    }
+    let input = state.input;
+    write!(out, "{input:08x}")
 }
 
 /// Puts the content of the five stages.
@@ -69,24 +134,19 @@ fn put_stage<W: Write>(out: &mut W, turn: &Held<Stored>) -> io::Result<()> {
     write!(out, " {thread}{mark}")
 }
 
-/// The picked turn of a cycle: its thread, and its address, word, instruction and effect, or that
-/// it is flushed.
-#[derive(Clone, Copy)]
-pub(crate) struct TurnText<'a>(pub(crate) &'a Cycle);
-
-impl fmt::Display for TurnText<'_> {
-    fn fmt<W: fmt::Write>(&self, f: &mut fmt::Formatter<W>) -> fmt::Result {
-        let outcome = self.0.outcome();
-        match *self.0.turn() {
-            Held::Bubble => f.write_str("-"),
-            Held::Flushed { thread } => write!(f, "T{thread} {outcome}"),
-            Held::Issue { thread, what } => {
-                let pc = what.pc;
-                let word = what.word;
-                let instruction = text_at(pc, word);
-                let text = instruction.as_str();
-                write!(f, "T{thread} {pc:08x} {word:08x} {text:<26} {outcome}")
-            }
+/// Puts the picked turn of a cycle: its thread, and its address, word, instruction and effect, or
+/// that it is flushed.
+fn put_turn<W: Write>(out: &mut W, cycle: &Cycle) -> io::Result<()> {
+    let outcome = cycle.outcome();
+    match *cycle.turn() {
+        Held::Bubble => out.write_all(b" -"),
+        Held::Flushed { thread } => write!(out, " T{thread} {outcome}"),
+        Held::Issue { thread, what } => {
+            let pc = what.pc;
+            let word = what.word;
+            let instruction = text_at(pc, word);
+            let text = instruction.as_str();
+            write!(out, " T{thread} {pc:08x} {word:08x} {text:<26} {outcome}")
         }
     }
 }

@@ -4,11 +4,8 @@ ghost use Rattle.std.specs.Prelude.{◌≡◌, ◌+◌, ◌<◌, ◌≤◌, vec_
 ghost use Rattle.timer_unit.specs.Time.{most_cycles};
 
 use crate::cycle::Cycle;
-use crate::konata::Konata;
 use crate::progress::{Progress, next_report, tell_at};
-use crate::svg::Svg;
-use crate::text::Rows;
-use crate::vcd::Vcd;
+use crate::text::{OutputForm, Rows};
 use crate::watch::Watch;
 use crate::window::Window;
 use core_model::CYCLES_TO_W;
@@ -20,43 +17,6 @@ use std::io::Write;
 /// The number of cycles that are watched before the first one shown: the turn that is then in W was
 /// issued in the earliest of them.
 const BEFORE: u64 = CYCLES_TO_W;
-
-/// A form in which cycles are shown.
-#[derive(Clone, Copy, PartialEq, Eq)]
-pub enum Form {
-    /// A line of text for each cycle.
-    Text,
-    /// The log of the Konata viewer.
-    Konata,
-    /// A value change dump.
-    Vcd,
-    /// A picture.
-    Svg,
-}
-
-/// A form that is written cycle by cycle.
-pub(crate) trait Writing {
-    /// Begins the form, for these cycles.
-    ///
-    /// # Errors
-    ///
-    /// The writer's.
-    fn begin<W: Write>(out: &mut W, window: &Window) -> io::Result<Self>;
-
-    /// Puts the next cycle.
-    ///
-    /// # Errors
-    ///
-    /// The writer's.
-    fn put<W: Write>(&mut self, out: &mut W, cycle: &Cycle) -> io::Result<()>;
-
-    /// Ends the output, with the time of the first cycle after the window, in nanoseconds.
-    ///
-    /// # Errors
-    ///
-    /// The writer's.
-    fn end<W: Write>(self, out: &mut W, time: u64) -> io::Result<()>;
-}
 
 /// Does a number of cycles from cycle 0 on.
 fn go<P: Progress>(machine: &mut Machine, ports: &mut Ports, cycles: u64, progress: &mut P)
@@ -74,9 +34,9 @@ fn go<P: Progress>(machine: &mut Machine, ports: &mut Ports, cycles: u64, progre
 }
 
 /// Does a cycle, and puts the one that is whole then, if the window has it.
-fn put_cycle<V: Writing, W: Write>(
+fn put_cycle<W: Write>(
     out: &mut W,
-    writing: &mut V,
+    rows: &mut Rows,
     watch: &mut Watch,
     window: &Window,
     machine: &mut Machine,
@@ -88,16 +48,16 @@ fn put_cycle<V: Writing, W: Write>(
     ensures eight { vec_len ports.new ≡ 8 }
 {
     match watch.tick(machine, ports) {
-        Some(cycle) if cycle.start.cycle >= window.from() => writing.put(out, &cycle),
+        Some(cycle) if cycle.start.cycle >= window.from() => rows.put(out, &cycle),
         _ => Ok(()),
     }
 }
 
 /// Runs a machine from a cycle on until all cycles of a window are complete, and puts each as soon
 /// as it is complete.
-fn put_window<V: Writing, W: Write, P: Progress>(
+fn put_window<W: Write, P: Progress>(
     out: &mut W,
-    writing: &mut V,
+    rows: &mut Rows,
     window: &Window,
     machine: &mut Machine,
     ports: &mut Ports,
@@ -107,26 +67,10 @@ fn put_window<V: Writing, W: Write, P: Progress>(
 {
     let mut watch = Watch::new();
     for _cycle in machine.at..window.run_len() {
-        put_cycle(out, writing, &mut watch, window, machine, ports)?;
+        put_cycle(out, rows, &mut watch, window, machine, ports)?;
         tell_at(progress, machine.at);
     }
     Ok(())
-}
-
-/// Runs a machine from a cycle on until all cycles of a window are complete, and puts each in a
-/// format as soon as it is complete.
-fn put_form<V: Writing + Drop, W: Write, P: Progress>(
-    out: &mut W,
-    window: &Window,
-    machine: &mut Machine,
-    ports: &mut Ports,
-    progress: &mut P,
-) -> io::Result<()>
-    requires eight { vec_len ports.old ≡ 8 }
-{
-    let mut writing = V::begin(out, window)?;
-    put_window(out, &mut writing, window, machine, ports, progress)?;
-    writing.end(out, machine.units.clock.now(window.to()))
 }
 
 /// Runs a machine from cycle 0 on until all cycles of a window are complete, and puts each as soon
@@ -137,7 +81,7 @@ fn put_form<V: Writing + Drop, W: Write, P: Progress>(
 /// The writer's.
 pub fn put_view<W: Write, P: Progress>(
     out: &mut W,
-    form: Form,
+    form: OutputForm,
     window: &Window,
     machine: &mut Machine,
     ports: &mut Ports,
@@ -149,10 +93,6 @@ pub fn put_view<W: Write, P: Progress>(
     let first = window.from().saturating_sub(BEFORE);
     go(machine, ports, first, progress);
     progress.begin_window();
-    match form {
-        Form::Text => put_form::<Rows, _, _>(out, window, machine, ports, progress),
-        Form::Konata => put_form::<Konata, _, _>(out, window, machine, ports, progress),
-        Form::Vcd => put_form::<Vcd, _, _>(out, window, machine, ports, progress),
-        Form::Svg => put_form::<Svg, _, _>(out, window, machine, ports, progress),
-    }
+    let mut rows = Rows::begin(out, form, machine.units.clock.now(1))?;
+    put_window(out, &mut rows, window, machine, ports, progress)
 }

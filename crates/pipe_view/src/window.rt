@@ -41,21 +41,6 @@ impl Window {
         self.from
     }
 
-    /// The cycle after the last one that is shown.
-    pub fn to(&self) -> u64
-        ensures at { result ≡ self.now.to }
-        ensures limit { result + 3 ≤ most_cycles }
-    {
-        self.to
-    }
-
-    /// The number of its cycles.
-    pub fn len(&self) -> u64
-        ensures { self.now.from + result ≡ self.now.to }
-    {
-        self.to - self.from
-    }
-
     /// The number of cycles that a machine does, from cycle 0 on, until the window's cycles are
     /// complete.
     pub fn run_len(&self) -> u64

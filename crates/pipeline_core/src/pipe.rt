@@ -53,7 +53,7 @@ impl Pipe {
     ghost use Rattle.core_model.specs.World.{Start, start_world};
     ghost use Rattle.pipe_model.specs.Stages.{retired_event};
     ghost use Rattle.pipe_model.specs.Stages.{step};
-    ghost use Rattle.pipe_model.specs.Relation.{Begins, PortsRefine, Refines};
+    ghost use Rattle.pipe_model.specs.Relation.{Begins, PortsRefine, PipelineRefines};
     ghost use Rattle.pipe_model.specs.Relation.{RefinesNext, HasLatches};
     ghost use Rattle.pipe_model.specs.PipelineLaws.{empty, first_units};
     ghost use Rattle.pipeline_core.specs.StageFacts.{uses_port};
@@ -69,7 +69,7 @@ impl Pipe {
         ensures refines { (s : Start) (ports : List (Option Row)) → Begins s →
             HasLatches (start_world s) ports →
             map (λ t. t.pc) s.threads ≡ entries →
-            Refines s 0 (abstract_stages result) (first_units s ports) }
+            PipelineRefines s 0 (abstract_stages result) (first_units s ports) }
     {
         start_refines();
         Pipe {
@@ -95,7 +95,7 @@ impl Pipe {
         ensures relation { let before = rows_of latched word_at ports.old.items in let after =
             rows_of latched word_at ports.new.items in
             (s : Start) → Begins s → PortsRefine s cycle before →
-            Refines s cycle (abstract_stages self.old)
+            PipelineRefines s cycle (abstract_stages self.old)
             (abstract_state units.old before) →
             RefinesNext s cycle before (abstract_ticked self.new units.new after result) }
         ensures step { abstract_ticked self.new units.new

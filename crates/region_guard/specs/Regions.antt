@@ -26,8 +26,8 @@ abbrev pub read_only_region : ℕ
 read_only_region = 12
 
 -- the allowed nibbles of a region register: a thread, shared or read only
-abbrev pub is_owner : ℕ → Bool
-is_owner nibble = nat_le nibble shared_region || nibble == read_only_region
+abbrev pub is_owner_nibble : ℕ → Bool
+is_owner_nibble nibble = nat_le nibble shared_region || nibble == read_only_region
 
 -- the kind of a region for a thread
 pub data RegionKind : Type 0 where

@@ -5,15 +5,15 @@ use Rattle.std.specs.List.{list_all}
 use Rattle.slot_table.specs.Nibbles.{nibbles}
 use Rattle.slot_table.specs.Masks.{mask_of}
 use Rattle.region_guard.specs.declared.register.BadRegion.{BadRegion}
-use Rattle.region_guard.specs.Regions.{RegionKind, is_owner, region_kind}
+use Rattle.region_guard.specs.Regions.{RegionKind, is_owner_nibble, region_kind}
 
 -- whether a word is allowed in the register
 unfoldable pub is_regions : ℕ → Bool
-is_regions word = list_all is_owner (nibbles word)
+is_regions word = list_all is_owner_nibble (nibbles word)
 
 -- the first region whose nibble is refused
 abbrev pub bad_region : ℕ → Option ℕ
-bad_region word = position (λ nibble. not (is_owner nibble)) (nibbles word)
+bad_region word = position (λ nibble. not (is_owner_nibble nibble)) (nibbles word)
 
 -- the word, unless a region is refused. The slots register has a refusal of another type
 abbrev pub unless_bad : ℕ → Option ℕ → Result ℕ BadRegion

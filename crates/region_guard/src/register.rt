@@ -4,7 +4,8 @@ ghost use Rattle.std.specs.Prelude.{◌≡◌, ◌<◌, ◌==◌, ◌||◌, IfSo
 ghost use Rattle.std.specs.Prelude.{IsTrue, is_ok, map, not, position};
 ghost use Rattle.slot_table.specs.Masks.{bit_of, mask_of};
 ghost use Rattle.slot_table.specs.Nibbles.{nibble_at};
-ghost use Rattle.region_guard.specs.Regions.{is_owner, is_readable, is_writable, region_kind};
+ghost use Rattle.region_guard.specs.Regions.{is_owner_nibble, is_readable, is_writable};
+ghost use Rattle.region_guard.specs.Regions.{region_kind};
 ghost use Rattle.region_guard.specs.RegionsWord.{is_regions, masks_by, regions_of};
 
 use slot_table::{nibble, nibbles_of};
@@ -57,18 +58,18 @@ pub const SHARED: u8 = 8;
 /// The nibble of a read only region.
 pub const READ_ONLY: u8 = 12;
 
-fn is_owner(nibble: u8) -> bool
-    ensures { result ≡ is_owner nibble }
+fn is_owner_nibble(nibble: u8) -> bool
+    ensures { result ≡ is_owner_nibble nibble }
 {
     nibble <= SHARED || nibble == READ_ONLY
 }
 
 // The first region whose nibble is refused.
 fn bad_region(nibbles: &[u8; 8]) -> Option<usize>
-    ensures first { result ≡ position (λ nibble. not (is_owner nibble)) nibbles.now }
+    ensures first { result ≡ position (λ nibble. not (is_owner_nibble nibble)) nibbles.now }
     ensures within { IfSome result (λ index. index < 8) }
 {
-    nibbles.iter().position(|nibble| !is_owner(*nibble))
+    nibbles.iter().position(|nibble| !is_owner_nibble(*nibble))
 }
 
 /// Whether a confined thread may load and fetch in a region with a nibble.

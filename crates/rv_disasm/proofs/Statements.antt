@@ -48,7 +48,7 @@ use Rattle.fp_asm.specs.Words.{signed_12, up_to, instruction}
 use Rattle.fp_asm.specs.Statements.{some_targets, statement_in, statement_check}
 use Rattle.fp_asm.specs.Statements.{statement_named, size_of, location_after}
 use Rattle.fp_asm.specs.First.{Labels}
-use Rattle.fp_asm.specs.Second.{way, target_word, all_resolved, jump, plain_word}
+use Rattle.fp_asm.specs.Second.{offset_to, target_word, all_resolved, jump, plain_word}
 use Rattle.fp_asm.specs.Second.{branch_word, jal_word, value_words, statement_words}
 use Rattle.fp_asm.specs.Faults.{next}
 use Rattle.fp_asm.specs.declared.refusal.AsmNo.{AsmNo}
@@ -158,10 +158,11 @@ low_32 : (z : ℤ) → low_bits 32 z < 2 ^ 32
 low_32 (pos n) = omega arith
 low_32 (negsuc n) = omega arith
 
-way_back : (pc : ℕ) (off : ℤ) → pc < 2 ^ 32 → IsSigned 21 off → way pc (target pc off) ≡ off
-way_back pc off h g = turned (low_bits 32 off) (low_32 off) ∙ signed_32 off g
+offset_back : (pc : ℕ) (off : ℤ) → pc < 2 ^ 32 → IsSigned 21 off → offset_to pc (target
+    pc off) ≡ off
+offset_back pc off h g = turned (low_bits 32 off) (low_32 off) ∙ signed_32 off g
   where
-    turned : (b : ℕ) → b < 2 ^ 32 → way pc ((pc + b) % 2 ^ 32) ≡ sign_extended 32 b
+    turned : (b : ℕ) → b < 2 ^ 32 → offset_to pc ((pc + b) % 2 ^ 32) ≡ sign_extended 32 b
     turned b small =
         let same : ((pc + b) % 2 ^ 32 + (2 ^ 32 - pc)) % 2 ^ 32 ≡ b = omega arith in
         ap (sign_extended 32) same
@@ -170,7 +171,12 @@ jump_back : (low high : ℤ) (pc : ℕ) (off : ℤ) → pc < 2 ^ 32 → IsSigned
     le_z low off ≡ true → le_z off high ≡ true → (target pc off % 4 == 0) ≡ true →
     jump low high pc (target pc off) ≡ Ok off
 unfolding jump
-jump_back low high pc off h g below above four = rw (way_back pc off h g, below, above, four) refl
+jump_back low high pc off h g below above four = rw (
+  offset_back pc off h g,
+  below,
+  above,
+  four,
+) refl
 
 -- The operands of a form, as the assembler fills them.
 three_filled : (d a b : ℕ) → d < 32 → a < 32 → b < 32 →
@@ -722,7 +728,7 @@ branch_line op pc w a b off ha hb h even hp e four =
     let wide : IsSigned 21 off = (omega (arith, ints), omega (arith, ints)) in
     let low : le_z (neg_ℤ (pos 4096)) off ≡ true = grind (arith, ints) in
     let high : le_z off (pos 4094) ≡ true = let k = even.1 in grind (arith, ints) in
-    let way = jump_back (neg_ℤ (pos 4096)) (pos 4094) pc off hp wide low high four in
+    let offset_to = jump_back (neg_ℤ (pos 4096)) (pos 4094) pc off hp wide low high four in
     record {
       named = branch_is_name op;
       sound = (
@@ -739,7 +745,7 @@ branch_line op pc w a b off ha hb h even hp e four =
         ),
       );
       few = omega arith;
-      gives = branch op pc w a b (target pc off) off ha hb (target_small pc off) way e;
+      gives = branch op pc w a b (target pc off) off ha hb (target_small pc off) offset_to e;
     }
 
 jal_line : (pc w d : ℕ) (off : ℤ) → d < 32 → IsSigned 21 off → IsEven off →
@@ -748,7 +754,7 @@ jal_line : (pc w d : ℕ) (off : ℤ) → d < 32 → IsSigned 21 off → IsEven 
 jal_line pc w d off hd h even hp e four =
     let low : le_z (neg_ℤ (pos 1048576)) off ≡ true = grind (arith, ints) in
     let high : le_z off (pos 1048574) ≡ true = let k = even.1 in grind (arith, ints) in
-    let way = jump_back (neg_ℤ (pos 1048576)) (pos 1048574) pc off hp h low high four in
+    let offset_to = jump_back (neg_ℤ (pos 1048576)) (pos 1048574) pc off hp h low high four in
     record {
       named = refl;
       sound = (
@@ -757,7 +763,7 @@ jal_line pc w d off hd h even hp e four =
         (tt, tt, ((omega arith, target_small pc off, target_small pc off), refl, tt)),
       );
       few = omega arith;
-      gives = jal pc w d (target pc off) off hd (target_small pc off) way e;
+      gives = jal pc w d (target pc off) off hd (target_small pc off) offset_to e;
     }
 
 alu_is_name : (op : AluOp) → is_name (alu_name op) ≡ true

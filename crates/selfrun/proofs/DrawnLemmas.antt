@@ -69,7 +69,7 @@ pub thread_parts : (first k : ℕ) (u l c b : Ins) (b0 b1 b2 b3 b4 b5 : List ℕ
     b2 ≡ b1 ++ bytes_of (l ∷ []) → b3 ≡ b2 ++ bytes_of (drawn_from first 124) →
     b4 ≡ b3 ++ bytes_of (c ∷ []) → b5 ≡ b4 ++ bytes_of (b ∷ []) →
     b5 ≡ bytes_of (instructions first k)
-thread_parts first k u l c b b0 b1 b2 b3 b4 b5 front back e0 e1 e2 e3 e4 e5 =
+thread_parts first k u l c b b0 b1 b2 b3 b4 b5 prefix back e0 e1 e2 e3 e4 e5 =
     let xs : List Ins = drawn_from first 124 in
     let d1 : b1 ≡ bytes_of (u ∷ []) = e1 ∙ ap (λ bs. bs ++ bytes_of (u ∷ [])) e0 in
     let d2 : b2 ≡ bytes_of (u ∷ []) ++ bytes_of (l ∷ []) =
@@ -80,7 +80,7 @@ thread_parts first k u l c b b0 b1 b2 b3 b4 b5 front back e0 e1 e2 e3 e4 e5 =
     e4 ∙ ap (λ bs. bs ++ bytes_of (c ∷ [])) d3 in
     e5 ∙ ap (λ bs. bs ++ bytes_of (b ∷ [])) d4 ∙ five_parts u l c b xs
     ∙ ap (λ is. bytes_of (u ∷ l ∷ (xs ++ is))) back
-    ∙ ap (λ is. bytes_of (is ++ (xs ++ last_ins))) front
+    ∙ ap (λ is. bytes_of (is ++ (xs ++ last_ins))) prefix
 
 length-bytes_of : (xs : List Ins) → length (bytes_of xs) ≡ 4 * length xs
 unfolding bytes_of

@@ -83,13 +83,13 @@ pub piece_and : (p q : Piece) (xs ys : List ℕ) → IsPiece p xs → IsPiece q 
 piece_and p q xs ys first second h small =
     let w : ℕ = p.weight * q.weight + 0 in
     let s : ℕ = p.sum * q.weight + q.sum in
-    let front : ℕ = h * p.weight + p.sum in
-    let begun : fold_of h (xs ++ ys) ≡ fold_of (front % 2 ^ 32) ys =
+    let prefix : ℕ = h * p.weight + p.sum in
+    let begun : fold_of h (xs ++ ys) ≡ fold_of (prefix % 2 ^ 32) ys =
     folded-append h xs ys ∙ ap (λ x. fold_of x ys) (first h small) in
-    let ended : fold_of (front % 2 ^ 32) ys ≡ (front * q.weight + q.sum) % 2 ^ 32 =
-    second (front % 2 ^ 32) (omega arith) ∙ cut front q.weight q.sum in
-    let sum : front * q.weight + q.sum ≡ h * w + s =
-    let left : front * q.weight ≡ h * p.weight * q.weight + p.sum * q.weight =
+    let ended : fold_of (prefix % 2 ^ 32) ys ≡ (prefix * q.weight + q.sum) % 2 ^ 32 =
+    second (prefix % 2 ^ 32) (omega arith) ∙ cut prefix q.weight q.sum in
+    let sum : prefix * q.weight + q.sum ≡ h * w + s =
+    let left : prefix * q.weight ≡ h * p.weight * q.weight + p.sum * q.weight =
     add-mul (h * p.weight) p.sum q.weight in
     let inner : h * (p.weight * q.weight) ≡ h * p.weight * q.weight =
     sym (mul_assoc h p.weight q.weight) in
@@ -131,13 +131,13 @@ right_last width n small =
     more : 10 ≤ n → right width n ≡ upper_text (width - 1) (n / 10) ++ (48 + n % 10) ∷ []
     more many =
         let last : List ℕ = (48 + n % 10) ∷ [] in
-        let front : List ℕ = decimal (n / 10) in
-        let long : length (front ++ last) ≡ length front + 1 = length-append front last in
-        let fewer : width - (length front + 1) ≡ width - 1 - length front = omega arith in
+        let prefix : List ℕ = decimal (n / 10) in
+        let long : length (prefix ++ last) ≡ length prefix + 1 = length-append prefix last in
+        let fewer : width - (length prefix + 1) ≡ width - 1 - length prefix = omega arith in
         ap (λ ds. replicate (width - length ds) 32 ++ ds) (decimal_step n many small)
-        ∙ ap (λ k. replicate (width - k) 32 ++ (front ++ last)) long
-        ∙ ap (λ k. replicate k 32 ++ (front ++ last)) fewer
-        ∙ sym (append_assoc (replicate (width - 1 - length front) 32) front last)
+        ∙ ap (λ k. replicate (width - k) 32 ++ (prefix ++ last)) long
+        ∙ ap (λ k. replicate k 32 ++ (prefix ++ last)) fewer
+        ∙ sym (append_assoc (replicate (width - 1 - length prefix) 32) prefix last)
         ∙ ap (λ xs. xs ++ last) (sym (upper_some (width - 1) (n / 10) (omega (arith, many))))
 
 pub upper_none : (p : Piece) (width tens : ℕ) → tens ≡ 0 → IsPiece p (replicate width 32) →
@@ -164,18 +164,18 @@ pub by_last_two : (cycle : ℕ) → 100 ≤ cycle → cycle < 2 ^ 64 →
 unfolding two_digits
 by_last_two cycle many fits =
     let tens : ℕ = cycle / 10 in
-    let front : List ℕ = upper_text 8 (cycle / 100) in
+    let prefix : List ℕ = upper_text 8 (cycle / 100) in
     let ten : cycle / 10 / 10 ≡ cycle / 100 = omega arith in
     let first : cycle / 10 % 10 ≡ cycle % 100 / 10 = omega arith in
     let last : cycle % 10 ≡ cycle % 100 % 10 = omega arith in
-    let upper : upper_text 9 tens ≡ front ++ (48 + cycle % 100 / 10) ∷ [] =
+    let upper : upper_text 9 tens ≡ prefix ++ (48 + cycle % 100 / 10) ∷ [] =
     upper_some 9 tens (omega (arith, many)) ∙ right_last 9 tens (omega (arith, fits))
     ∙ ap (λ n. upper_text 8 n ++ (48 + cycle / 10 % 10) ∷ []) ten
-    ∙ ap (λ n. front ++ (48 + n) ∷ []) first in
+    ∙ ap (λ n. prefix ++ (48 + n) ∷ []) first in
     let whole : right 10 cycle
-    ≡ (front ++ (48 + cycle % 100 / 10) ∷ []) ++ (48 + cycle % 100 % 10) ∷ [] =
+    ≡ (prefix ++ (48 + cycle % 100 / 10) ∷ []) ++ (48 + cycle % 100 % 10) ∷ [] =
     right_last 10 cycle fits ∙ ap (λ xs. xs ++ (48 + cycle % 10) ∷ []) upper
-    ∙ ap (λ n. (front ++ (48 + cycle % 100 / 10) ∷ []) ++ (48 + n) ∷ []) last in
+    ∙ ap (λ n. (prefix ++ (48 + cycle % 100 / 10) ∷ []) ++ (48 + n) ∷ []) last in
     sym (ap (λ xs. xs ++ 32 ∷ []) whole ∙ simp append_assoc)
 
 -- a cycle less than 100 after a first one has the same digits before the last two

@@ -16,7 +16,7 @@ use Rattle.core_model.specs.World.{Start, recent, world, events}
 use Rattle.pipe_model.specs.Relation.{of_thread, event_in, turn_at}
 use Rattle.pipe_model.specs.PipelineLaws.{EventsGrow}
 use Rattle.machine.specs.Observing.{HasSeen, next_with, observer_after, retires}
-use Rattle.machine.specs.WorldRelation.{Refines, start_beside}
+use Rattle.machine.specs.WorldRelation.{Refines, start_with_ports}
 use Rattle.fp_image.specs.declared.parts.Segment.{Segment}
 use Rattle.fp_setup.specs.Settings.{Settings}
 use Rattle.fp_setup.specs.Plain.{plain_threads}
@@ -218,7 +218,7 @@ count_ends grows s at n first now before after start none few seen =
 
 -- without ports no input is fed
 beside_none : (number n : ℕ) →
-    start_beside own_setup (programs number) no_ports n ≡ own_start number n
+    start_with_ports own_setup (programs number) no_ports n ≡ own_start number n
 unfolding own_start start plain_threads
 beside_none number n = refl
 
@@ -233,15 +233,15 @@ pub own_run : (number n : ℕ) (setup : Settings) (image : List Segment)
     (rows : List (Option Row)) (m : Machine) (ts : List Tally) →
     setup ≡ own_setup → image ≡ programs number → rows ≡ no_ports →
     ((ports : List (Option Row)) (n : ℕ) → length ports ≡ 8 →
-    Refines (start_beside setup image ports n) 0 n m ports) →
+    Refines (start_with_ports setup image ports n) 0 n m ports) →
     ((s : Start) → Refines s 0 n m rows → ts ≡ tallies_of s n) → n ≡ 100000 →
     ts ≡ own_tallies number
 own_run number n setup image rows m ts same_setup same_image same_rows refines ran is =
     let A : List (Option Row) → Type 0 = λ ports. Refines (own_start number n) 0 n m ports in
     let B : Start → Type 0 = λ s. Refines s 0 n m no_ports in
     let C : List Segment → Type 0 =
-    λ xs. Refines (start_beside own_setup xs no_ports n) 0 n m no_ports in
-    let D : Settings → Type 0 = λ s. Refines (start_beside s image no_ports n) 0 n m no_ports in
+    λ xs. Refines (start_with_ports own_setup xs no_ports n) 0 n m no_ports in
+    let D : Settings → Type 0 = λ s. Refines (start_with_ports s image no_ports n) 0 n m no_ports in
     ran (own_start number n) (subst A (sym same_rows) (subst B (beside_none number n)
     (subst C same_image (subst D same_setup (refines no_ports n refl)))))
     ∙ own_tallies_are number n is

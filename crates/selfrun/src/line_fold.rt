@@ -111,16 +111,16 @@ impl LineFolder {
         })) }
     {
         let begun = self.cycles.fold(h, cycle);
-        let front = self.sites.fold(begun, &self.pairs, thread, pc, word);
+        let prefix = self.sites.fold(begun, &self.pairs, thread, pc, word);
         let shown = match *effect {
-            Effect::Nothing => with_byte(front, b'-'),
-            Effect::Reg { rd, value } => self.register(front, rd, value),
+            Effect::Nothing => with_byte(prefix, b'-'),
+            Effect::Reg { rd, value } => self.register(prefix, rd, value),
             Effect::Store {
                 address,
                 size,
                 value,
-            } => self.store(front, address, size, value),
-            Effect::Trap { cause, target } if cause < 10 => self.trap(front, cause, target),
+            } => self.store(prefix, address, size, value),
+            Effect::Trap { cause, target } if cause < 10 => self.trap(prefix, cause, target),
             _ => return rare_line(h, cycle, thread, pc, word, effect),
         };
         with_byte(shown, b'\n')

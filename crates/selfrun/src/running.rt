@@ -3,12 +3,12 @@
 ghost use Rattle.std.specs.Prelude.{◌≡◌, ℕ, ◌<◌, ◌≤◌, List, Option};
 ghost use Rattle.std.specs.Prelude.{length, vec_len, OnOk, OnErr, IfOk};
 ghost use Rattle.std.specs.Io.KnownBytes.{Appends};
-ghost use Rattle.fp_io.specs.Causes.{Rose};
-ghost use Rattle.fp_io.specs.Content.{AppendsFront};
+ghost use Rattle.fp_io.specs.Causes.{HasRisen};
+ghost use Rattle.fp_io.specs.Content.{AppendsPrefix};
 ghost use Rattle.fp_ports.specs.PluggedPorts.{Row, rows_of};
 ghost use Rattle.setup_model.specs.Start.{no_ports};
 ghost use Rattle.core_model.specs.World.{Start};
-ghost use Rattle.machine.specs.WorldRelation.{Refines, start_beside};
+ghost use Rattle.machine.specs.WorldRelation.{Refines, start_with_ports};
 ghost use Rattle.selfrun.specs.Drawn.{own_setup, programs};
 ghost use Rattle.selfrun.specs.Counting.{tallies_of};
 ghost use Rattle.selfrun.specs.Text.{own_tallies, selfrun_text, tallies_text, tally_at};
@@ -75,7 +75,7 @@ impl Observer for Count {
 /// The machine with the drawn programs, at its start.
 fn own_machine(alloc: Global, number: u32) -> Result<Machine, AllocError>
     ensures refines { IfOk result (λ m. (ports : List (Option Row)) (n : ℕ) → length ports ≡ 8
-        → Refines (start_beside own_setup (programs number) ports n) 0 n m ports) }
+        → Refines (start_with_ports own_setup (programs number) ports n) 0 n m ports) }
     ensures start { IfOk result (λ m. m.at ≡ 0) }
 {
     let setup = own_setup(alloc)?;
@@ -135,9 +135,9 @@ impl Selfrun {
     pub fn put<K: Sink>(&self, out: &mut K) -> Result<(), PutFailed>
         ensures ok { OnOk result (Appends (K.taken out.old) (K.taken out.new)
             (tallies_text self.now.tallies)) }
-        ensures err { OnErr result (AppendsFront (K.taken out.old) (K.taken out.new)
+        ensures err { OnErr result (AppendsPrefix (K.taken out.old) (K.taken out.new)
             (tallies_text self.now.tallies)) }
-        ensures failed { OnErr result (Rose (K.faults out.old) (K.faults out.new)) }
+        ensures failed { OnErr result (HasRisen (K.faults out.old) (K.faults out.new)) }
         ensures counted { K.faults out.old ≤ K.faults out.new }
     {
         for k in 0..8u8 {
@@ -151,9 +151,9 @@ impl Selfrun {
         requires { k < 8 }
         ensures ok { OnOk result (Appends (K.taken out.old) (K.taken out.new)
             (tally_line k (tally_at self.now.tallies k))) }
-        ensures err { OnErr result (AppendsFront (K.taken out.old) (K.taken out.new)
+        ensures err { OnErr result (AppendsPrefix (K.taken out.old) (K.taken out.new)
             (tally_line k (tally_at self.now.tallies k))) }
-        ensures failed { OnErr result (Rose (K.faults out.old) (K.faults out.new)) }
+        ensures failed { OnErr result (HasRisen (K.faults out.old) (K.faults out.new)) }
         ensures counted { K.faults out.old ≤ K.faults out.new }
     {
         let tally = self.tallies[usize::from(k)];

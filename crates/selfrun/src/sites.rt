@@ -28,12 +28,12 @@ fn site_of(pairs: &HexPairs, pc: u32, word: u32) -> Site
     ensures pc { result.pc ≡ pc }
     ensures word { result.word ≡ word }
 {
-    let front = pairs.word(pc).then(b' ');
+    let prefix = pairs.word(pc).then(b' ');
     let back = pairs.word(word).then(b' ');
     Site {
         pc,
         word,
-        piece: front.and(back),
+        piece: prefix.and(back),
     }
 }
 

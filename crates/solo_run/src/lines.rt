@@ -2,8 +2,8 @@
 
 ghost use Rattle.std.specs.Prelude.{◌≡◌, ◌≤◌, ◌<◌, ◌^◌, IfSome, IfNone, OnOk, OnErr};
 ghost use Rattle.std.specs.Io.KnownBytes.{Appends};
-ghost use Rattle.fp_io.specs.Causes.{Rose};
-ghost use Rattle.fp_io.specs.Content.{AppendsFront};
+ghost use Rattle.fp_io.specs.Causes.{HasRisen};
+ghost use Rattle.fp_io.specs.Content.{AppendsPrefix};
 ghost use Rattle.rv_exec.specs.Line.{IsPrintable, IsPrintableEvent};
 ghost use Rattle.trace_print.specs.Text.{line_text};
 ghost use Rattle.solo_run.specs.Text.{event_text};
@@ -33,9 +33,9 @@ pub(crate) fn put_event<K: Sink>(
     requires printable { IsPrintableEvent event }
     ensures counted { K.faults out.old ≤ K.faults out.new }
     ensures ok { OnOk result (Appends (K.taken out.old) (K.taken out.new) (event_text event)) }
-    ensures err { OnErr result (AppendsFront (K.taken out.old) (K.taken out.new)
+    ensures err { OnErr result (AppendsPrefix (K.taken out.old) (K.taken out.new)
         (event_text event)) }
-    ensures failed { OnErr result (Rose (K.faults out.old) (K.faults out.new)) }
+    ensures failed { OnErr result (HasRisen (K.faults out.old) (K.faults out.new)) }
     ensures nothing { IfNone event (out.new ≡ out.old) }
 {
     match event {

@@ -3,7 +3,7 @@
 ghost use Rattle.std.specs.Prelude.{◌≡◌, ◌<◌, nat_lt, true};
 ghost use Rattle.std.specs.List.{list_all};
 ghost use Rattle.slot_table.specs.Nibbles.{nibbles};
-ghost use Rattle.region_guard.specs.Regions.{is_owner, region_kind};
+ghost use Rattle.region_guard.specs.Regions.{is_owner_nibble, region_kind};
 ghost use Rattle.fp_setup.specs.SetupOfTables.{word_of};
 ghost use Rattle.core_model.specs.Viewed.{region_kinds};
 ghost use Rattle.solo_run.specs.RegionKinds.{kind_of_number, kinds_of_numbers};
@@ -16,7 +16,7 @@ use region_guard::{READ_ONLY, Regions, SHARED};
 fn owner(number: u8, thread: u8) -> u8
     requires { thread < 8 }
     ensures kind { region_kind thread result ≡ kind_of_number number }
-    ensures owner { is_owner result ≡ true }
+    ensures owner { is_owner_nibble result ≡ true }
     ensures small { result < 16 }
 {
     match number {

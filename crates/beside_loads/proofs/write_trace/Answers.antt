@@ -5,6 +5,6 @@ use Rattle.beside_loads.proofs.write_trace.Goals as goal
 
 pub returns : goal.returns
 returns g c =
-    λ zero. traced (g.F.Files.told c.args.files.now) (map string_bytes c.args.words.now) _ _
+    λ zero. traced (g.F.Files.contents c.args.files.now) (map string_bytes c.args.words.now) _ _
     c.flexpret.result c.flexpret.ensures.outcome.known c.args.out.now.bytes
     c.flexpret.new.out.bytes c.requires.empty refl refl zero

@@ -9,6 +9,7 @@ returns g c =
       rules = c.programs_keep_rules.ensures;
       sections = c.bounds_while_scheduled.ensures.sections;
       calls = c.bounds_while_scheduled.ensures.calls;
-    }) (g.F.Files.told c.args.files.now) (map string_bytes c.args.words.now) _ _ c.flexpret.result
+    }) (g.F.Files.contents c.args.files.now) (map string_bytes c.args.words.now) _ _
+    c.flexpret.result
     c.flexpret.ensures.outcome.known c.args.out.now.bytes c.flexpret.new.out.bytes
     c.requires.empty refl refl zero

@@ -4,7 +4,7 @@ use Rattle.bound_calc.proofs.pass.clear.Goals as goal
 
 pub loop-index-preserved : goal.loop-index-preserved
 loop-index-preserved c =
-    let w = c.loop-index.front.waiting.items in
+    let w = c.loop-index.frontier.waiting.items in
     record {
       none =
           λ k a b.

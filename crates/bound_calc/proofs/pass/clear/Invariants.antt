@@ -4,6 +4,6 @@ use Rattle.bound_calc.proofs.pass.clear.Given as goal
 
 abbrev pub invariant-loop-index : goal.invariant-loop-index
 invariant-loop-index l = record {
-  none : (k : ℕ) → l.fn.span.first ≤ k → k < l.index → power_at l.front.waiting.items k ≡ None;
-  count : length l.front.waiting.items ≡ length l.fn.front.waiting.items;
+  none : (k : ℕ) → l.fn.span.first ≤ k → k < l.index → power_at l.frontier.waiting.items k ≡ None;
+  count : length l.frontier.waiting.items ≡ length l.fn.frontier.waiting.items;
 }

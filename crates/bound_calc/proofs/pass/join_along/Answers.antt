@@ -6,8 +6,8 @@ use Rattle.bound_calc.specs.Propagation.{move_costs}
 use Rattle.bound_calc.proofs.PassLaws.{hops-positions, with-steps}
 use Rattle.bound_calc.proofs.pass.join_along.Goals as goal
 
-pub advance-requires : goal.advance-requires
-advance-requires c = record {
+pub join_advanced-requires : goal.join_advanced-requires
+join_advanced-requires c = record {
   positions =
       hops-positions c.args.steps.now c.args.lag c.hops.result.now.hops c.hops.ensures.frame
       c.hops.ensures.hops;
@@ -15,9 +15,10 @@ advance-requires c = record {
 
 pub returns-in-None : goal.returns-in-None
 returns-in-None c =
-    subst (λ w. IsBest (entry c.advance.new.onto) (Either (In (entry c.args.onto.now)) (Then (In
+    subst (λ w. IsBest (entry c.join_advanced.new.onto) (Either (In (entry c.args.onto.now)) (Then
+    (In
     (entry c.args.here.now)) (move_costs c.args.steps.now (option_map (λ m. m.now) w) c.args.lag))))
-    (sym c.in-None.is) (with-steps c.hops.ensures.hops c.advance.ensures)
+    (sym c.in-None.is) (with-steps c.hops.ensures.hops c.join_advanced.ensures)
 
 pub returns-in-Some : goal.returns-in-Some
 returns-in-Some c =

@@ -1,6 +1,6 @@
 use Rattle.std.proofs.Common.{◌≤◌, subst, sym}
 use Rattle.std.proofs.lemmas.Result.{on_ok_weaker}
-use Rattle.bound_calc.specs.Propagation.{abstract_front}
+use Rattle.bound_calc.specs.Propagation.{abstract_frontier}
 use Rattle.bound_calc.proofs.PassLaws.{lag-small}
 use Rattle.bound_calc.proofs.pass.process_word.Goals as goal
 
@@ -12,4 +12,4 @@ follow_edges-requires-clause-lag c =
 pub returns : goal.returns
 returns c =
     on_ok_weaker c.follow_edges.result (λ gone.
-    (abstract_front c.arrive.new.front, c.in_ok-arrive.ensures, gone)) c.follow_edges.ensures
+    (abstract_frontier c.arrive.new.frontier, c.in_ok-arrive.ensures, gone)) c.follow_edges.ensures

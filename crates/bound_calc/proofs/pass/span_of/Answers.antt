@@ -24,13 +24,14 @@ overflow_sub-result-in-Some-2 c =
 
 pub returns-in-Some-clause-span : goal.returns-in-Some-clause-span
 returns-in-Some-clause-span c =
-    λ s ways.
+    λ s word_costs.
     let t = c.args.tree.now in
     let j = c.in-Some.j in
-    subst (λ o. IsSpan t (scope_of (over t s ways) o) ((j.head - c.section-section.result.from) / 4)
+    subst (λ o. IsSpan t (scope_of (over t s word_costs) o) ((j.head -
+    c.section-section.result.from) / 4)
     ((j.last - c.section-section.result.from) / 4)) (sym c.in-Some.is)
-    (subst (λ r. IsSpan t (scope_of (over t s ways) (Some j)) ((j.head - r.from) / 4)
-    ((j.last - r.from) / 4)) (sym c.section-section.ensures.value) (span-body t s ways j
+    (subst (λ r. IsSpan t (scope_of (over t s word_costs) (Some j)) ((j.head - r.from) / 4)
+    ((j.last - r.from) / 4)) (sym c.section-section.ensures.value) (span-body t s word_costs j
     c.section-section.ensures.rules (known (goal.at.returns-in-Some-clause-span c).In-Some)))
 
 pub returns-in-Some-clause-inside : goal.returns-in-Some-clause-inside

@@ -3,7 +3,7 @@ use Rattle.std.proofs.lemmas.List.{length_push}
 use Rattle.bound_calc.specs.Best.{IsBest}
 use Rattle.bound_calc.specs.Matrices.{entry}
 use Rattle.bound_calc.specs.Passing.{ReachesAt}
-use Rattle.bound_calc.specs.Propagation.{matrix_at, ways_on}
+use Rattle.bound_calc.specs.Propagation.{matrix_at, costs_on}
 use Rattle.bound_calc.proofs.PassLaws.{reach-more, span-count}
 use Rattle.bound_calc.proofs.reached.reach.Goals as goal
 
@@ -17,16 +17,16 @@ loop-index-init c = record {
 pub visit-requires-clause-inside : goal.visit-requires-clause-inside
 visit-requires-clause-inside c = omega (
   arith,
-  span-count c.args.tree.now c.args.steps.now (ways_on c.args.ways.now)
+  span-count c.args.tree.now c.args.steps.now (costs_on c.args.word_costs.now)
       c.span_of-count.result.first c.span_of-count.result.last c.span_of-count.ensures.rules
-      (c.span_of-count.ensures.span c.args.steps.now (ways_on c.args.ways.now)),
+      (c.span_of-count.ensures.span c.args.steps.now (costs_on c.args.word_costs.now)),
 )
 
 pub loop-index-preserved : goal.loop-index-preserved
 loop-index-preserved c =
     let t = c.args.tree.now in
     let o = c.args.steps.now in
-    let h = ways_on c.args.ways.now in
+    let h = costs_on c.args.word_costs.now in
     let k = c.loop-index.index in
     let pushed = c.in_ok-push.ensures.items in
     record {
@@ -44,9 +44,9 @@ loop-index-preserved c =
 
 pub returns-clause-reached : goal.returns-clause-reached
 returns-clause-reached c =
-    let count = span-count c.args.tree.now c.args.steps.now (ways_on c.args.ways.now)
+    let count = span-count c.args.tree.now c.args.steps.now (costs_on c.args.word_costs.now)
     c.span_of-count.result.first c.span_of-count.result.last c.span_of-count.ensures.rules
-    (c.span_of-count.ensures.span c.args.steps.now (ways_on c.args.ways.now)) in
+    (c.span_of-count.ensures.span c.args.steps.now (costs_on c.args.word_costs.now)) in
     record {
       count = omega (arith, c.loop-index.invariant.count);
       best = λ k lt. c.loop-index.invariant.best k (omega arith);

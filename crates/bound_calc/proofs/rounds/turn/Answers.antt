@@ -6,6 +6,6 @@ use Rattle.bound_calc.proofs.rounds.turn.Goals as goal
 
 pub returns-in-Some : goal.returns-in-Some
 returns-in-Some c =
-    is-turned (move_costs c.args.steps.now (option_map (λ m. m.now) c.args.way) c.args.lag)
+    is-turned (move_costs c.args.steps.now (option_map (λ m. m.now) c.args.edge_costs) c.args.lag)
     c.args.back.now c.args.here.now c.join_along.new.onto c.args.target c.args.head
     (c.in-Some.is ∙ ap Some c.if-to-head.true) c.join_along.ensures

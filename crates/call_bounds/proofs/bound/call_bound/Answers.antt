@@ -4,7 +4,7 @@ use Rattle.bound_calc.specs.Bound.{positions}
 use Rattle.call_bounds.specs.Listing.{calls}
 use Rattle.call_bounds.specs.Summaries.{IsMost, route}
 use Rattle.call_bounds.proofs.Exact.{answer-bound, answer-refused, no-memory, own-position}
-use Rattle.call_bounds.proofs.Facts.{parts}
+use Rattle.call_bounds.proofs.Facts.{functions}
 use Rattle.call_bounds.proofs.bound.call_bound.Goals as goal
 
 pub returns-clause-bound : goal.returns-clause-bound
@@ -14,7 +14,7 @@ returns-clause-bound c =
     let m = subst (λ (s : Positions). IsMost (route l s) c.in_ok-largest_cost.field-0)
     c.new-steps.ensures c.in_ok-largest_cost.ensures.most in
     answer-bound (route l (positions c.args.slots.now c.args.thread)) c.in_ok-largest_cost.field-0
-    c.in_64_bits.result (parts (calls l) rules.0 rules.1) m c.in_64_bits.ensures
+    c.in_64_bits.result (functions (calls l) rules.0 rules.1) m c.in_64_bits.ensures
 
 pub returns-clause-refused : goal.returns-clause-refused
 returns-clause-refused c =
@@ -23,7 +23,7 @@ returns-clause-refused c =
     let m = subst (λ (s : Positions). IsMost (route l s) c.in_ok-largest_cost.field-0)
     c.new-steps.ensures c.in_ok-largest_cost.ensures.most in
     answer-refused (route l (positions c.args.slots.now c.args.thread)) c.in_ok-largest_cost.field-0
-    c.in_64_bits.result (parts (calls l) rules.0 rules.1) m c.in_64_bits.ensures
+    c.in_64_bits.result (functions (calls l) rules.0 rules.1) m c.in_64_bits.ensures
 
 pub largest_cost-requires : goal.largest_cost-requires
 largest_cost-requires c =

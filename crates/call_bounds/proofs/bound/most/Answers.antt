@@ -4,5 +4,5 @@ use Rattle.call_bounds.proofs.bound.most.Goals as goal
 pub returns-in-None : goal.returns-in-None
 returns-in-None c = absurd (c.in-None.ensures IsReached.first)
 
-pub most_in-requires-clause-part : goal.most_in-requires-clause-part
-most_in-requires-clause-part c = c.in-Some.ensures.1
+pub most_in-requires-clause-function : goal.most_in-requires-clause-function
+most_in-requires-clause-function c = c.in-Some.ensures.1

@@ -1,6 +1,6 @@
 use Rattle.std.proofs.Common.{◌≡◌, ◌<◌, ◌∙◌, subst, sym, false, true, None, MatchOption}
 use Rattle.call_bounds.specs.Calls.{callee}
-use Rattle.call_bounds.specs.Listing.{calls, part_at, part_count}
+use Rattle.call_bounds.specs.Listing.{calls, function_at, function_count}
 use Rattle.call_bounds.proofs.TableLaws.{calls-at, calls-none}
 use Rattle.call_bounds.proofs.call_table.callee_at.Goals as goal
 
@@ -16,4 +16,5 @@ returns c =
     calls-at l c.args.draft.now c.args.index c.called.result c.requires.listing
     ((c.requires.met.exact c.args.index c.requires.within).0 c.if-not-met-index.false)
     (subst (λ u. MatchOption c.called.result (callee (calls l) u ≡ None) (λ k. (0 < k) × (k
-    < part_count l) × (callee (calls l) u ≡ part_at l k))) c.address.ensures.value c.called.ensures)
+    < function_count l) × (callee (calls l) u ≡ function_at l k))) c.address.ensures.value
+    c.called.ensures)

@@ -9,5 +9,5 @@ returns c =
     let l = c.args.code.now in
     let t = c.in_ok-draft.draft in
     IfOk-weaker c.row_of.result (λ row. IsRowTo l t (length t.words) row.items)
-    (λ row. IsRow l c.args.part row.items) (λ row h. row-all l t c.args.part row.items
-    c.requires.listing c.requires.part c.in_ok-draft.ensures h) c.row_of.ensures
+    (λ row. IsRow l c.args.function row.items) (λ row h. row-all l t c.args.function row.items
+    c.requires.listing c.requires.function c.in_ok-draft.ensures h) c.row_of.ensures

@@ -6,7 +6,7 @@ use Rattle.call_bounds.proofs.call_table.row_of.Goals as goal
 pub loop-index-init : goal.loop-index-init
 loop-index-init c =
     row-start c.args.code.now c.args.draft.now c.in_ok-row.row.items
-    (c.in_ok-row.ensures.0 ∙ c.part_count.ensures.value) c.in_ok-row.ensures.1
+    (c.in_ok-row.ensures.0 ∙ c.function_count.ensures.value) c.in_ok-row.ensures.1
 
 pub mark-requires : goal.mark-requires
 mark-requires c =

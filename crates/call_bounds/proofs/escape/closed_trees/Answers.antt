@@ -20,16 +20,16 @@ returns-in_err-trees c =
 pub returns-in-None : goal.returns-in-None
 returns-in-None c =
     let before = c.requires.allowed in
-    let parts = c.in_ok-trees.ensures.allowed in
+    let functions = c.in_ok-trees.ensures.allowed in
     record {
       trees = c.in_ok-trees.ensures.trees;
       allowed = record {
         overlap = before.0;
         recursion = before.1;
-        nesting = parts.0;
-        indirect = parts.1;
-        timed = parts.2;
-        unbounded = parts.3;
+        nesting = functions.0;
+        indirect = functions.1;
+        timed = functions.2;
+        unbounded = functions.3;
         escape = c.in-None.ensures;
       };
       refused = tt;

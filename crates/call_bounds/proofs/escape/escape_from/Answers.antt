@@ -6,8 +6,9 @@ use Rattle.call_bounds.proofs.escape.escape_from.Goals as goal
 
 pub returns-in-Some : goal.returns-in-Some
 returns-in-Some c =
-    let at : tree_at c.args.trees.now c.args.part ≡ Some c.in-Some.tree =
-    get_or_default c.args.trees.now c.args.part None c.index-trees-part.result c.requires
-    ∙ (sym c.index-trees-part.is ∙ c.in-Some.is) in
-    escape-some c.args.trees.now c.args.part c.in-Some.tree c.way_out.result
-    (let z : 0 < c.args.part = omega (arith, c.if-part-eq0.false) in z) at c.way_out.ensures
+    let at : tree_at c.args.trees.now c.args.function ≡ Some c.in-Some.tree =
+    get_or_default c.args.trees.now c.args.function None c.index-trees-function.result c.requires
+    ∙ (sym c.index-trees-function.is ∙ c.in-Some.is) in
+    escape-some c.args.trees.now c.args.function c.in-Some.tree c.first_exit.result
+    (let z : 0 < c.args.function = omega (arith, c.if-function-eq0.false) in
+    z) at c.first_exit.ensures

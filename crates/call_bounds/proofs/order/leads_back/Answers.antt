@@ -6,8 +6,9 @@ use Rattle.call_bounds.proofs.order.leads_back.Goals as goal
 pub returns : goal.returns
 returns c =
     let led = c.in_ok-led.led.items in
-    let e : IsExact c.args.count c.args.table.now c.args.part led = c.in_ok-led.ensures in
-    let met : is_met led c.args.part ≡ c.index.result.now = get_or_default led c.args.part
-    false c.index.result.now (omega (arith, c.requires.part, e.count)) ∙ sym c.index.ensures in
-    subst (λ b. (b ≡ true) ↔ IsCalled c.args.count c.args.table.now c.args.part c.args.part) met
-    (e.exact c.args.part)
+    let e : IsExact c.args.count c.args.table.now c.args.function led = c.in_ok-led.ensures in
+    let met : is_met led c.args.function ≡ c.index.result.now = get_or_default led c.args.function
+    false c.index.result.now (omega (arith, c.requires.function, e.count)) ∙ sym c.index.ensures in
+    subst (λ b. (b ≡ true) ↔ IsCalled c.args.count c.args.table.now c.args.function
+    c.args.function) met
+    (e.exact c.args.function)

@@ -4,7 +4,7 @@ use Rattle.call_bounds.proofs.ReachabilityLaws.{Marks}
 use Rattle.call_bounds.proofs.reachability.led_to.Given as goal
 
 abbrev pub invariant-loop-changed : goal.invariant-loop-changed
-invariant-loop-changed l = Marks l.count l.table l.part l.met.items l.changed
+invariant-loop-changed l = Marks l.count l.table l.function l.met.items l.changed
 
 abbrev pub decreases-loop-changed : goal.decreases-loop-changed
 decreases-loop-changed l = unmet_count l.met.items + cond l.changed 1 0

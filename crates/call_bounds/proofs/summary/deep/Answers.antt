@@ -1,7 +1,7 @@
 use Rattle.std.proofs.Common.{Option, subst}
 use Rattle.bound_calc.specs.Best.{Either, In, IsBest}
 use Rattle.bound_calc.specs.Matrices.{entry}
-use Rattle.bound_calc.specs.Propagation.{matrix_at, ways_on}
+use Rattle.bound_calc.specs.Propagation.{matrix_at, costs_on}
 use Rattle.bound_calc.specs.declared.matrix.Matrix.{Matrix}
 use Rattle.bound_calc.proofs.PassLaws.{none-entry}
 use Rattle.call_bounds.specs.Summaries.{EndsAt}
@@ -13,7 +13,7 @@ loop-index-init c = any-none none-entry
 
 pub loop-index-preserved : goal.loop-index-preserved
 loop-index-preserved c =
-    let into = ways_on c.args.into.now in
+    let into = costs_on c.args.into.now in
     let at = c.args.at.now in
     any-more (λ k. EndsAt (into k) (matrix_at at k)) c.loop-index.index c.loop-index.invariant
     (subst (λ (w : Option Matrix). IsBest (entry c.end_at-deep.result)

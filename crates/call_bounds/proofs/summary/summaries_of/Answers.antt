@@ -5,10 +5,10 @@ use Rattle.call_bounds.proofs.summary.summaries_of.Goals as goal
 pub loop-rank-init : goal.loop-rank-init
 loop-rank-init c = record {
   all =
-      summaries-none c.args.tree.now c.args.steps.now c.part_count-count.result
+      summaries-none c.args.tree.now c.args.steps.now c.function_count-count.result
       c.in_ok-done.done.through.items c.in_ok-done.done.deep.items
-      c.part_count-count.ensures.listing c.part_count-count.ensures.callable
-      c.part_count-count.ensures.value c.in_ok-done.ensures.0 c.in_ok-done.ensures.1;
+      c.function_count-count.ensures.listing c.function_count-count.ensures.callable
+      c.function_count-count.ensures.value c.in_ok-done.ensures.0 c.in_ok-done.ensures.1;
   known =
       known-none c.args.tree.now c.args.steps.now c.ranks-ranks.result.now
       c.in_ok-done.done.through.items c.in_ok-done.done.deep.items;
@@ -18,11 +18,11 @@ pub returns-clause-known : goal.returns-clause-known
 returns-clause-known c =
     known-all c.args.tree.now c.args.steps.now c.ranks-ranks.result.now c.loop-rank.rank
     c.loop-rank.done.through.items c.loop-rank.done.deep.items c.ranks-ranks.ensures
-    (omega (arith, c.loop-rank-test.false, c.part_count-count.ensures.value))
+    (omega (arith, c.loop-rank-test.false, c.function_count-count.ensures.value))
     c.loop-rank.invariant.known
 
 pub overflow_add-rank-end : goal.overflow_add-rank-end
-overflow_add-rank-end c = omega (arith, c.part_count-count.ensures.few)
+overflow_add-rank-end c = omega (arith, c.function_count-count.ensures.few)
 
 pub summarise_rank-requires-clause-ranks : goal.summarise_rank-requires-clause-ranks
 summarise_rank-requires-clause-ranks c = c.ranks-ranks.ensures

@@ -1,5 +1,5 @@
 use Rattle.std.proofs.Common.{◌≡◌, ◌+◌, ◌<◌, arith, inl, sym, subst}
-use Rattle.call_bounds.specs.Listing.{part_count, rank_at}
+use Rattle.call_bounds.specs.Listing.{function_count, rank_at}
 use Rattle.call_bounds.specs.Summaries.{AreKnown, AreSummaries, IsAdded}
 use Rattle.call_bounds.specs.declared.summary.Summaries.{Summaries}
 use Rattle.call_bounds.proofs.DoneLaws.{Before, before-all, before-first}
@@ -23,7 +23,7 @@ summarise-requires-clause-known c =
     let ranks = c.args.ranks.now in
     let n = c.loop-number.number in
     let here : rank_at ranks n ≡ c.args.rank = c.if-ranks-number.true in
-    let within : n < part_count c.args.tree.now =
+    let within : n < function_count c.args.tree.now =
     omega (arith, c.loop-number-test.true, c.requires.ranks.count) in
     knows-callees c.args.tree.now c.args.steps.now ranks n (Before ranks c.args.rank n)
     c.loop-number.done.through.items c.loop-number.done.deep.items c.requires.ranks within

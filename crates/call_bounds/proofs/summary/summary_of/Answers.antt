@@ -3,13 +3,13 @@ use Rattle.region_tree.specs.Tree.{IsSection, IsTree, Tree}
 use Rattle.region_tree.specs.declared.section.Section.{Section}
 use Rattle.bound_calc.specs.Best.{IsBest}
 use Rattle.bound_calc.specs.Matrices.{entry}
-use Rattle.bound_calc.specs.Propagation.{AreReached, Ended, WayTable, ways_on}
+use Rattle.bound_calc.specs.Propagation.{AreReached, Ended, CostTable, costs_on}
 use Rattle.bound_calc.specs.declared.matrix.Matrix.{Matrix}
 use Rattle.call_bounds.specs.Calls.{range}
-use Rattle.call_bounds.specs.Listing.{calls, part_at}
+use Rattle.call_bounds.specs.Listing.{calls, function_at}
 use Rattle.call_bounds.specs.Summaries.{AreCallees, AreReturns, Ending}
 use Rattle.call_bounds.proofs.PassedOn.{no-value}
-use Rattle.call_bounds.proofs.PartLaws.{count, summary-is, table-is}
+use Rattle.call_bounds.proofs.FunctionLaws.{count, summary-is, table-is}
 use Rattle.call_bounds.proofs.summary.summary_of.Goals as goal
 
 pub returns : goal.returns
@@ -17,11 +17,11 @@ returns c =
     let l = c.args.tree.now in
     let n = c.args.number in
     let o = c.args.steps.now in
-    let part = c.requires.part in
-    let section : c.section.result ≡ range (calls l) (part_at l n) =
-    c.section.ensures.value ∙ ap (λ (t : Tree). t.section) part in
-    let section' : c.section-2.result ≡ range (calls l) (part_at l n) =
-    c.section-2.ensures.value ∙ ap (λ (t : Tree). t.section) part in
+    let function = c.requires.function in
+    let section : c.section.result ≡ range (calls l) (function_at l n) =
+    c.section.ensures.value ∙ ap (λ (t : Tree). t.section) function in
+    let section' : c.section-2.result ≡ range (calls l) (function_at l n) =
+    c.section-2.ensures.value ∙ ap (λ (t : Tree). t.section) function in
     let callees = c.in_ok-callees.callees.items in
     let ends = c.in_ok-ends.ends.items in
     let through = c.args.done.now.through.items in
@@ -31,22 +31,23 @@ returns c =
     subst (λ (s : Section). AreCallees l s (count s) callees) section c.in_ok-callees.ensures in
     let es =
     subst (λ (s : Section). AreReturns l n s (count s) ends) section' c.in_ok-ends.ensures in
-    let tree = subst IsTree part c.in_ok-at.ensures.rules in
+    let tree = subst IsTree function c.in_ok-at.ensures.rules in
     let table = table-is c.new.result c.new.ensures c.deref.ensures.value c.deref-2.ensures.value in
     let table' =
     table-is c.new-2.result c.new-2.ensures c.deref-5.ensures.value c.deref-6.ensures.value in
-    let reached = subst (λ (t : Tree). AreReached t o (ways_on (record {
+    let reached = subst (λ (t : Tree). AreReached t o (costs_on (record {
       indices = callees;
       costs = through;
-    })) at) part (subst (λ (w : WayTable). AreReached c.args.part.now o (ways_on w) at)
+    })) at) function (subst (λ (w : CostTable). AreReached c.args.function.now o (costs_on w) at)
     table c.in_ok-at.ensures.reached) in
     let back = subst (λ (ends : List Bool). IsBest (entry c.jump_through.ensures.0)
     (Ended o ends at (length at))) c.deref-4.ensures.value (subst (λ (at : List Matrix).
     IsBest (entry c.jump_through.ensures.0) (Ended o c.deref-4.result.now at (length at)))
     c.deref-3.ensures.value c.jump_through.ensures.1) in
-    let below = subst (λ (w : WayTable). IsBest (entry c.jump_deep.ensures.0) (Ending (ways_on w) at
+    let below = subst (λ (w : CostTable). IsBest (entry c.jump_deep.ensures.0) (Ending
+    (costs_on w) at
     (length at))) table' (subst (λ (at : List Matrix). IsBest (entry c.jump_deep.ensures.0) (Ending
-    (ways_on c.new-2.result) at (length at))) c.deref-7.ensures.value c.jump_deep.ensures.1) in
+    (costs_on c.new-2.result) at (length at))) c.deref-7.ensures.value c.jump_deep.ensures.1) in
     summary-is l o n callees ends through deep at c.jump-jump.result c.jump_through.ensures.0
     c.jump_deep.ensures.0 c.jump_through.result c.jump_deep.result c.requires.done
     c.requires.reached c.requires.known cs es tree reached c.jump-jump.ensures back below

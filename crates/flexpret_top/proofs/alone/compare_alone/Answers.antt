@@ -5,20 +5,21 @@ use Rattle.flexpret_top.proofs.alone.compare_alone.Goals as goal
 
 pub returns-in-Ok-clause-ok : goal.returns-in-Ok-clause-ok
 returns-in-Ok-clause-ok g c =
-    let told = g.F.Files.told c.args.files.now in
-    let is = compared-file told c.args.trace.now c.deref.result.now c.in-Ok.given.items _
+    let contents = g.F.Files.contents c.args.files.now in
+    let is = compared-file contents c.args.trace.now c.deref.result.now c.in-Ok.given.items _
     c.args.alone.cycles (60 * c.args.alone.cycles) c.check_alone.result refl c.in-Ok.ensures.bytes
-    c.deref.ensures.value c.check_alone.ensures.front c.check_alone.ensures.checked in
-    compared-ok told c.args.trace.now _ c.check_alone.result c.said_by.result is
+    c.deref.ensures.value c.check_alone.ensures.prefix c.check_alone.ensures.checked in
+    compared-ok contents c.args.trace.now _ c.check_alone.result c.said_by.result is
     c.said_by.ensures.same
 
 pub returns-in-Ok-clause-stop : goal.returns-in-Ok-clause-stop
 returns-in-Ok-clause-stop g c =
-    let told = g.F.Files.told c.args.files.now in
-    let is = compared-file told c.args.trace.now c.deref.result.now c.in-Ok.given.items _
+    let contents = g.F.Files.contents c.args.files.now in
+    let is = compared-file contents c.args.trace.now c.deref.result.now c.in-Ok.given.items _
     c.args.alone.cycles (60 * c.args.alone.cycles) c.check_alone.result refl c.in-Ok.ensures.bytes
-    c.deref.ensures.value c.check_alone.ensures.front c.check_alone.ensures.checked in
-    compared-stop told c.args.trace.now _ c.check_alone.result (g.F.Files.faults c.args.files.now)
+    c.deref.ensures.value c.check_alone.ensures.prefix c.check_alone.ensures.checked in
+    compared-stop contents c.args.trace.now _ c.check_alone.result (g.F.Files.faults
+    c.args.files.now)
     (g.F.Files.faults c.fetch.new.files) c.said_by.result is c.said_by.ensures.stop
 
 pub returns-in-Ok-clause-kept : goal.returns-in-Ok-clause-kept

@@ -1,17 +1,17 @@
 use Rattle.std.proofs.Common.{◌∙◌, ap, arith, inl, inr, refl, subst, Some}
 use Rattle.fp_ports.specs.PluggedPorts.{rows_of}
-use Rattle.command_files.specs.Status.{number_of}
-use Rattle.command_files.specs.declared.status.Status.TheVariants.{Ok, Differs, Read, Usage}
-use Rattle.command_files.specs.declared.status.Status.TheVariants.{Write}
-use Rattle.command_files.specs.declared.stop.Stop.{Stop}
-use Rattle.flexpret_top.specs.Endings.{Ends}
+use Rattle.commands.specs.Status.{number_of}
+use Rattle.commands.specs.declared.status.Status.TheVariants.{Ok, Differs, Read, Usage}
+use Rattle.commands.specs.declared.status.Status.TheVariants.{Write}
+use Rattle.commands.specs.declared.stop.CommandStop.{CommandStop}
+use Rattle.flexpret_top.specs.Endings.{HasEnded}
 use Rattle.flexpret_top.specs.Outcome.{state}
-use Rattle.flexpret_top.proofs.Ending.{all-of, answered-of, front-of, is_status}
+use Rattle.flexpret_top.proofs.Ending.{all-of, answered-of, prefix-of, is_status}
 use Rattle.flexpret_top.proofs.Ending.{left-of, not-silent, nothing-of, part-of, same-cut-short}
 use Rattle.flexpret_top.proofs.Ending.{some-none, status-of, unequal}
 use Rattle.flexpret_top.proofs.Outcomes.{Theorems, known-of}
 use Rattle.flexpret_top.proofs.Stopping.{difference-no_memory, no-difference}
-use Rattle.flexpret_top.proofs.Stopping.{stop-said, stop-read, stop-write, stop-front}
+use Rattle.flexpret_top.proofs.Stopping.{stop-said, stop-read, stop-write, stop-prefix}
 use Rattle.flexpret_top.proofs.Stopping.{stop-complete, stop-leaves, stop-missing, stop-usage}
 use Rattle.flexpret_top.proofs.Stopping.{write-no_memory}
 use Rattle.flexpret_top.proofs.command.answer.Goals as goal
@@ -51,7 +51,7 @@ returns-in-Ok-deliver g c =
         asks = λ none. some-none none;
         untouched = λ none. some-none none;
         requests = inr c.prepare.ensures.asked;
-        told = c.prepare.ensures.told;
+        contents = c.prepare.ensures.contents;
         read = λ seven. unequal 0 7 seven refl;
         missing = λ lacks. absurd (let e = c.in-Ok.ensures.missing lacks in let no : ⊥ = cc in no);
         write = λ eight. unequal 0 8 eight refl;
@@ -67,15 +67,15 @@ returns-in-Ok-deliver g c =
             ∙ c.prepare.ensures.reads reads;
         differs = λ one. unequal 0 1 one refl;
         known =
-            known-of theorems (g.F.Files.told c.args.files.now) (Some c.args.ask.now) before
+            known-of theorems (g.F.Files.contents c.args.files.now) (Some c.args.ask.now) before
             after 0
-            (λ seven eight nine. all-of (g.F.Files.told c.args.files.now) c.args.ask.now _ _
+            (λ seven eight nine. all-of (g.F.Files.contents c.args.files.now) c.args.ask.now _ _
             c.in-Ok.prepared (g.K.Sink.taken c.args.out.now) (g.K.Sink.taken c.deliver.new.out)
             c.in-Ok.ensures.ok c.in-Ok-deliver.ensures.ok)
             (λ eight. unequal 0 8 eight refl)
-            (λ no_read_fault no_write_fault. answered-of (g.F.Files.told c.args.files.now)
+            (λ no_read_fault no_write_fault. answered-of (g.F.Files.contents c.args.files.now)
             c.args.ask.now _ _ c.in-Ok.prepared c.in-Ok.ensures.ok)
-            (λ zero. left-of (g.F.Files.told c.args.files.now) c.args.ask.now _ _ _
+            (λ zero. left-of (g.F.Files.contents c.args.files.now) c.args.ask.now _ _ _
             c.in-Ok.prepared c.in-Ok.ensures.ok c.in-Ok-deliver.ensures.left)
             (λ eight. unequal 0 8 eight refl)
             (λ nine. unequal 0 9 nine refl);
@@ -106,7 +106,7 @@ returns-in-Err-deliver g c =
         asks = λ none. some-none none;
         untouched = λ none. some-none none;
         requests = inr c.prepare.ensures.asked;
-        told = c.prepare.ensures.told;
+        contents = c.prepare.ensures.contents;
         read = λ seven. unequal 8 7 seven refl;
         missing = λ lacks. absurd (let e = c.in-Ok.ensures.missing lacks in let no : ⊥ = cc in no);
         write = λ eight. c.in-Err-deliver.ensures.failed;
@@ -122,16 +122,16 @@ returns-in-Err-deliver g c =
             ∙ c.prepare.ensures.reads reads;
         differs = λ one. unequal 8 1 one refl;
         known =
-            known-of theorems (g.F.Files.told c.args.files.now) (Some c.args.ask.now) before
+            known-of theorems (g.F.Files.contents c.args.files.now) (Some c.args.ask.now) before
             after 8
             (λ seven eight nine. absurd (eight refl))
-            (λ eight. front-of (g.F.Files.told c.args.files.now) c.args.ask.now _ _
+            (λ eight. prefix-of (g.F.Files.contents c.args.files.now) c.args.ask.now _ _
             c.in-Ok.prepared (g.K.Sink.taken c.args.out.now) (g.K.Sink.taken c.deliver.new.out)
             c.in-Ok.ensures.ok c.in-Err-deliver.ensures.err)
             (λ no_read_fault no_write_fault.
             absurd (no_write_fault c.in-Err-deliver.ensures.failed))
             (λ zero. unequal 8 0 zero refl)
-            (λ eight. part-of (g.F.Files.told c.args.files.now) c.args.ask.now _ _ _
+            (λ eight. part-of (g.F.Files.contents c.args.files.now) c.args.ask.now _ _ _
             c.in-Ok.prepared c.in-Ok.ensures.ok c.in-Err-deliver.ensures.part)
             (λ nine. unequal 8 9 nine refl);
       };
@@ -154,7 +154,7 @@ returns-in-Err g c =
       call_visits = c.theorems.ensures.call_visits;
       imported = c.theorems.ensures.imported;
     } in
-    let told = g.F.Files.told c.args.files.now in
+    let contents = g.F.Files.contents c.args.files.now in
     let faults = g.F.Files.faults c.args.files.now in
     let faults' = g.F.Files.faults c.prepare.new.files in
     let out = g.K.Sink.faults c.args.out.now in
@@ -173,9 +173,10 @@ returns-in-Err g c =
         asks = λ none. some-none none;
         untouched = λ none. some-none none;
         requests = inr c.prepare.ensures.asked;
-        told = c.prepare.ensures.told;
+        contents = c.prepare.ensures.contents;
         read =
-            λ seven. stop-read told c.args.ask.now before.rows faults faults' stop status out out'
+            λ seven. stop-read contents c.args.ask.now before.rows faults faults' stop
+            status out out'
             taken taken' c.in-Err.ensures.stop ends (status-of status Read seven);
         missing =
             λ lacks. inl (ap number_of (stop-missing stop status out out' taken taken' ends
@@ -189,8 +190,8 @@ returns-in-Err g c =
         counted_files = c.prepare.ensures.counted;
         counted_out = c.end.ensures.counted;
         kept =
-            λ least eight nine. (let Stops : Stop → Type 0 =
-            λ s. Ends s out out' taken taken' status in
+            λ least eight nine. (let Stops : CommandStop → Type 0 =
+            λ s. HasEnded s out out' taken taken' status in
             c.in-Err.ensures.kept (λ none. nine (ap number_of (subst Stops none ends)))
             (no-difference stop status out out' taken taken' ends
             (λ e. let one = ap number_of e in omega (arith, one, least))
@@ -206,18 +207,19 @@ returns-in-Err g c =
                   (λ b. (goal.Port-dyn g (b.vtable, b.value)).word_at b.value) ports.items) same
             ]);
         known =
-            known-of theorems told (Some c.args.ask.now) before after (number_of status)
-            (λ seven eight nine. stop-said told c.args.ask.now before.rows faults faults' stop
+            known-of theorems contents (Some c.args.ask.now) before after (number_of status)
+            (λ seven eight nine. stop-said contents c.args.ask.now before.rows faults faults' stop
             status out out' taken taken' c.in-Err.ensures.stop ends (λ e. seven (ap number_of e))
             (λ e. eight (ap number_of e)) (λ e. nine (ap number_of e)))
-            (λ eight. stop-front told c.args.ask.now before.rows faults faults' stop status out
+            (λ eight. stop-prefix contents c.args.ask.now before.rows faults faults' stop status out
             out' taken taken' c.in-Err.ensures.stop ends (status-of status Write eight))
-            (λ no_read_fault no_write_fault. stop-complete told c.args.ask.now before.rows faults
+            (λ no_read_fault no_write_fault. stop-complete contents c.args.ask.now
+            before.rows faults
             faults' stop status out out' taken taken' c.in-Err.ensures.stop ends no_read_fault
             no_write_fault)
-            (λ zero. stop-leaves told c.args.ask.now before.rows after.rows stop status out out'
+            (λ zero. stop-leaves contents c.args.ask.now before.rows after.rows stop status out out'
             taken taken' ends (status-of status Ok zero))
-            (λ eight. same-cut-short told c.args.ask.now before.rows after.rows
+            (λ eight. same-cut-short contents c.args.ask.now before.rows after.rows
             (elim (c.in-Err.ensures.others (write-no_memory stop status out out' taken taken' ends
             (status-of status Write eight))) [
               | inl reads ↦ c.prepare.ensures.reads reads

@@ -1,6 +1,6 @@
 use Rattle.std.proofs.Common.{map}
 use Rattle.std.specs.Prelude.{string_bytes}
-use Rattle.ask_words.specs.Commands.{ask}
+use Rattle.command_line.specs.Commands.{ask}
 use Rattle.flexpret_top.proofs.Outcomes.{memory-outcome, outcome-of, usage-outcome}
 use Rattle.flexpret_top.proofs.command.flexpret.Goals as goal
 

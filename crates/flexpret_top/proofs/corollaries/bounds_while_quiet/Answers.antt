@@ -7,6 +7,6 @@ returns c = record {
       while-quiet c.start_is_set.ensures.quiet c.has_same_words.ensures.alike
       c.bounds_while_scheduled.ensures.sections;
   calls =
-      calls-while-quiet c.start_is_set.ensures.quiet c.has_same_words.ensures.alike_of_parts
+      calls-while-quiet c.start_is_set.ensures.quiet c.has_same_words.ensures.alike_of_functions
       c.bounds_while_scheduled.ensures.calls;
 }

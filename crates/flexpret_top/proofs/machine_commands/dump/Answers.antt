@@ -5,7 +5,7 @@ use Rattle.flexpret_top.proofs.machine_commands.dump.Goals as goal
 pub returns : goal.returns
 returns g c = search (
   rules,
-  dump-prepares (g.F.Files.told c.args.files.now) c.args.setup.now c.args.cycles _ _
+  dump-prepares (g.F.Files.contents c.args.files.now) c.args.setup.now c.args.cycles _ _
       c.in_ok-ready.field-0 c.in_ok-ready.ensures.cycles c.in_ok-ready.ensures.ok,
 )
 

@@ -5,7 +5,8 @@ use Rattle.flexpret_top.proofs.machine_commands.trace.Goals as goal
 pub returns : goal.returns
 returns g c = search (
   rules,
-  trace-prepares (g.F.Files.told c.args.files.now) c.args.setup.now c.args.thread c.args.cycles _ _
+  trace-prepares (g.F.Files.contents c.args.files.now) c.args.setup.now c.args.thread
+      c.args.cycles _ _
       c.in_ok-ready.ready c.in_ok-ready.ensures.cycles c.in_ok-ready.ensures.ok,
 )
 

@@ -1,19 +1,19 @@
 use Rattle.std.proofs.Common.{rules}
 use Rattle.fp_asm.specs.Second.{jump}
-use Rattle.fp_asm.proofs.Ways.{way_even}
+use Rattle.fp_asm.proofs.Offsets.{offset_even}
 use Rattle.fp_asm.proofs.words.jump.Goals as goal
 
-pub returns-clause-way : goal.returns-clause-way
+pub returns-clause-offset_to : goal.returns-clause-offset_to
 unfolding jump
-returns-clause-way c = search rules
+returns-clause-offset_to c = search rules
 
-pub returns-then-off-low-clause-way : goal.returns-then-off-low-clause-way
+pub returns-then-off-low-clause-offset_to : goal.returns-then-off-low-clause-offset_to
 unfolding jump
-returns-then-off-low-clause-way c = search rules
+returns-then-off-low-clause-offset_to c = search rules
 
-pub returns-then-to-ne0-clause-way : goal.returns-then-to-ne0-clause-way
+pub returns-then-to-ne0-clause-offset_to : goal.returns-then-to-ne0-clause-offset_to
 unfolding jump
-returns-then-to-ne0-clause-way c = search rules
+returns-then-to-ne0-clause-offset_to c = search rules
 
 pub returns-then-off-low-clause-within : goal.returns-then-off-low-clause-within
 returns-then-off-low-clause-within c = tt
@@ -31,4 +31,4 @@ pub returns-clause-within : goal.returns-clause-within
 returns-clause-within c = search rules
 
 pub returns-clause-even : goal.returns-clause-even
-returns-clause-even c = search (rules, way_even)
+returns-clause-even c = search (rules, offset_even)

@@ -61,7 +61,7 @@ returns-in_err-no_other_key c =
     rw (p.1, p.2) (record {
       read = found _ (table_checks _ _ _ _) c.in_err-no_other_key.ensures;
       id = tt;
-      fresh = tt;
+      not_taken = tt;
       mode = tt;
       rules = tt;
       inside = tt;
@@ -76,7 +76,7 @@ returns-in_err-id c =
           found _ (known (goal.at.returns-in_err-id c).After-key)
           (rw (c.integers.ensures, c.key.ensures) at c.in_err-id.ensures.read);
       id = tt;
-      fresh = tt;
+      not_taken = tt;
       mode = tt;
       rules = tt;
       inside = tt;
@@ -91,7 +91,7 @@ returns-in_err-mode c =
           found _ (id (goal.at.returns-in_err-mode c).After-key-2)
           (rw c.key-2.ensures at c.in_err-mode.ensures.read);
       id = tt;
-      fresh = tt;
+      not_taken = tt;
       mode = tt;
       rules = tt;
       inside = tt;
@@ -106,7 +106,7 @@ returns-in_err-entry c =
           found _ (mode (goal.at.returns-in_err-entry c).After-key-3)
           (rw (c.addresses.ensures, c.key-3.ensures) at c.in_err-entry.ensures.read);
       id = tt;
-      fresh = tt;
+      not_taken = tt;
       mode = tt;
       rules = tt;
       inside = tt;
@@ -121,7 +121,7 @@ returns-in_err-confined c =
           found _ (entry (goal.at.returns-in_err-confined c).After-key-4)
           (rw c.key-4.ensures at c.in_err-confined.ensures);
       id = tt;
-      fresh = tt;
+      not_taken = tt;
       mode = tt;
       rules = tt;
       inside = tt;
@@ -136,7 +136,7 @@ returns-in_err-permit c =
           found _ (confined (goal.at.returns-in_err-permit c).After-key-5)
           (rw (c.in_ok-confined.ensures.1, c.key-5.ensures) at c.in_err-permit.ensures.read);
       id = tt;
-      fresh = tt;
+      not_taken = tt;
       mode = tt;
       rules = tt;
       inside = tt;
@@ -151,7 +151,7 @@ returns-in_err-unplug c =
           found _ (permit (goal.at.returns-in_err-unplug c).After-key-6)
           (rw (c.integers-2.ensures, c.key-6.ensures) at c.in_err-unplug.ensures.read);
       id = tt;
-      fresh = tt;
+      not_taken = tt;
       mode = tt;
       rules = tt;
       inside = tt;
@@ -166,7 +166,7 @@ returns-in_err-inputs c =
           found_in_memory _ _ _ _ (unplug (goal.at.returns-in_err-inputs c).After-key-7)
           (rw c.key-7.ensures at c.in_err-inputs.ensures.read);
       id = tt;
-      fresh = tt;
+      not_taken = tt;
       mode = tt;
       rules = tt;
       inside = tt;
@@ -186,8 +186,8 @@ returns-clause-inside c =
 pub returns-clause-id : goal.returns-clause-id
 returns-clause-id c = id_below _ (rw c.integers.ensures at c.in_ok-id.ensures.within)
 
-pub returns-clause-fresh : goal.returns-clause-fresh
-returns-clause-fresh c = c.in_ok-id.ensures.fresh
+pub returns-clause-not_taken : goal.returns-clause-not_taken
+returns-clause-not_taken c = c.in_ok-id.ensures.not_taken
 
 pub returns-clause-mode : goal.returns-clause-mode
 returns-clause-mode c = mode_below _ c.in_ok-mode.ensures.value

@@ -51,8 +51,8 @@ loop-index-preserved c =
     let r : Members = members (view x) in
     let id : row.id ≡ id_at r = ap (λ (w : ThreadRow). w.id) same in
     let Fresh : List ℕ → Type 0 = λ ids. list_any (λ n. n == row.id) ids ≡ false in
-    let fresh : list_any (λ n. n == row.id) (map id_at (tables (take i items))) ≡ false =
-    subst Fresh before.ids c.in_ok-row.ensures.fresh in
+    let not_taken : list_any (λ n. n == row.id) (map id_at (tables (take i items))) ≡ false =
+    subst Fresh before.ids c.in_ok-row.ensures.not_taken in
     let Good : Place → Type 0 =
     λ place. thread_fault c.args.size (take i c.loop-index.ids) place (as_table (view x)) ≡ None in
     let good : thread_fault c.args.size (take i c.loop-index.ids) (thread_row i) (as_table (view x))
@@ -74,11 +74,11 @@ loop-index-preserved c =
       modes =
           modes-more (tables (take i items)) (tables (take (i + 1) items)) r c.loop-index.rows.modes
           c.put.new.self.modes row.id row.mode more id (ap (λ (w : ThreadRow). w.mode) same)
-          c.in_ok-row.ensures.id fresh before.modes c.put.ensures.modes;
+          c.in_ok-row.ensures.id not_taken before.modes c.put.ensures.modes;
       threads =
           threads-more (tables (take i items)) (tables (take (i + 1) items)) r
           c.loop-index.rows.threads c.put.new.self.threads row.id row.thread more id
-          (ap (λ (w : ThreadRow). w.thread) same) c.in_ok-row.ensures.id fresh before.threads
+          (ap (λ (w : ThreadRow). w.thread) same) c.in_ok-row.ensures.id not_taken before.threads
           c.put.ensures.threads;
       few =
           few-more c.loop-index.rows.modes c.put.new.self.modes row.id row.mode

@@ -13,7 +13,7 @@ invariant-loop-thread g l =
     let old = rows_of (λ b. (goal.Port-dyn g (b.vtable, b.value)).latched b.value)
     (λ b. (goal.Port-dyn g (b.vtable, b.value)).word_at b.value) l.initial.ports.items in
     let first =
-    responses_of (λ b. (goal.Plant-dyn g (b.vtable, b.value)).response b.value) l.plants.items in
+    responses_of g.P.Plant.response l.plants.items in
     record {
       eight : vec_len l.ports ≡ 8;
       looping : (every : ℕ) (s : Start) (n : ℕ) → 0 < every →

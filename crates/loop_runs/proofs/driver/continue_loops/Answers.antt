@@ -12,9 +12,9 @@ loop-step-init g c = record {
   counted = le_refl _;
   at = omega arith;
   looped =
-      λ first s n k told low within at h.
+      λ first s n k contents low within at h.
       looped-at first _ c.args.every s n k (k + 0) c.args.machine.now.at c.args.machine.now.at
-      c.args.thread c.args.machine.now _ told _ (omega arith) (omega arith) h;
+      c.args.thread c.args.machine.now _ contents _ (omega arith) (omega arith) h;
 }
 
 pub loop_step-requires-clause-limit : goal.loop_step-requires-clause-limit
@@ -38,9 +38,9 @@ loop-step-preserved g c = record {
       one-more c.loop-step._step c.args.every c.args.machine.now.at c.loop-step.machine.at
       c.loop_step.new.machine.at c.loop-step.invariant.at c.in_ok-loop_step.ensures.at;
   looped =
-      λ first s n k told low within at h.
+      λ first s n k contents low within at h.
       let every : ℕ = c.args.every in
-      let here = c.loop-step.invariant.looped first s n k told low within at h in
+      let here = c.loop-step.invariant.looped first s n k contents low within at h in
       let multiple : c.loop-step.machine.at ≡ (k + c.loop-step._step) * every =
       come-to k c.loop-step._step every c.args.machine.now.at
       c.loop-step.machine.at at c.loop-step.invariant.at in
@@ -48,26 +48,26 @@ loop-step-preserved g c = record {
       room-for c.loop-step._step c.args.steps every c.args.machine.now.at
       c.loop-step.machine.at n c.loop-step-test.true c.loop-step.invariant.at within in
       let next = c.in_ok-loop_step.ensures.looped first s n
-      (k + c.loop-step._step) told low room multiple here in
+      (k + c.loop-step._step) contents low room multiple here in
       looped-at first _ every s n (suc (k + c.loop-step._step))
       (k + (c.loop-step._step + 1)) c.loop_step.new.machine.at c.loop_step.new.machine.at
-      c.args.thread c.loop_step.new.machine _ told _ (omega arith) (omega arith) next;
+      c.args.thread c.loop_step.new.machine _ contents _ (omega arith) (omega arith) next;
 }
 
 pub returns-clause-looped : goal.returns-clause-looped
 returns-clause-looped g c =
-    λ first s n k told low within at h.
+    λ first s n k contents low within at h.
     let e : k + c.loop-step._step ≡ k + c.args.steps =
     omega (arith, c.loop-step-test.false, c.loop-step.auto._step-end) in
     looped-at first _ c.args.every s n (k + c.loop-step._step) (k + c.args.steps)
-    c.loop-step.machine.at c.loop-step.machine.at c.args.thread c.loop-step.machine _ told _ e
-    (omega arith) (c.loop-step.invariant.looped first s n k told low within at h)
+    c.loop-step.machine.at c.loop-step.machine.at c.args.thread c.loop-step.machine _ contents _ e
+    (omega arith) (c.loop-step.invariant.looped first s n k contents low within at h)
 
 pub returns-in_err-loop_step-clause-stopped : goal.returns-in_err-loop_step-clause-stopped
 returns-in_err-loop_step-clause-stopped g c =
     let p = err_from_is_err_and c.from_residual.result c.from_residual.ensures.1 in
-    rw p.1 (λ first s n k told low within at h. let every : ℕ = c.args.every in
-    let here = c.loop-step.invariant.looped first s n k told low within at h in
+    rw p.1 (λ first s n k contents low within at h. let every : ℕ = c.args.every in
+    let here = c.loop-step.invariant.looped first s n k contents low within at h in
     let multiple : c.loop-step.machine.at ≡ (k + c.loop-step._step) * every = come-to k
     c.loop-step._step every c.args.machine.now.at
     c.loop-step.machine.at at c.loop-step.invariant.at in
@@ -75,7 +75,7 @@ returns-in_err-loop_step-clause-stopped g c =
     c.args.steps every c.args.machine.now.at c.loop-step.machine.at
     n c.loop-step-test.true c.loop-step.invariant.at within in
     c.in_err-loop_step.ensures.stopped first s n
-    (k + c.loop-step._step) told low room multiple here)
+    (k + c.loop-step._step) contents low room multiple here)
 
 pub returns-in_err-loop_step-clause-failed : goal.returns-in_err-loop_step-clause-failed
 returns-in_err-loop_step-clause-failed g c =

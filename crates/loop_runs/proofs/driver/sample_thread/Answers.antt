@@ -1,6 +1,6 @@
 use Rattle.std.proofs.Common.{ℕ, suc, ◌<◌, length, sym, ◌∙◌, arith}
 use Rattle.machine.specs.WorldRelation.{Refines}
-use Rattle.loop_laws.specs.Answered.{with_all_shown}
+use Rattle.closed_loops.specs.Answered.{with_all_shown}
 use Rattle.loop_runs.specs.FedRuns.{fed_start}
 use Rattle.loop_runs.specs.Looping.{Looping}
 use Rattle.loop_runs.proofs.Steps.{answered-by, map-ok, plantless-by, portless-step, row-some}

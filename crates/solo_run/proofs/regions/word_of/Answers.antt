@@ -15,7 +15,8 @@ pub overflow_add-word : goal.overflow_add-word
 overflow_add-word c =
     let fits : 16 * c.loop-i.word + c.from.result < 2 ^ 32 =
     word_step-fits 16 c.args.digits.now c.loop-i.i c.loop-i.word c.from.result (omega arith)
-    c.told-digits c.requires c.loop-i-test.true (omega arith) c.loop-i.invariant c.from.ensures in
+    c.told-digits c.requires c.loop-i-test.true (omega arith) c.loop-i.invariant
+    c.from.ensures in
     omega arith
 
 pub loop-i-preserved : goal.loop-i-preserved

@@ -4,7 +4,7 @@ use Rattle.std.specs.Prelude.{OnErr, nat_le}
 use Rattle.std.proofs.lemmas.Bool.Decides.{nat_tests}
 use Rattle.std.proofs.lemmas.Slice.{take-put_mid}
 use Rattle.fp_io.specs.Gathered.{gathered_with}
-use Rattle.fp_io.proofs.Fronts.{gathered_after}
+use Rattle.fp_io.proofs.Prefixes.{gathered_after}
 use Rattle.fp_io.proofs.gathered.GatheredSink.put.Goals as goal
 
 -- bytes that fit are gathered after those before

@@ -4,8 +4,8 @@ use Rattle.std.proofs.Math.Nat.{le_refl}
 use Rattle.std.proofs.lemmas.Grind.{common_steps}
 use Rattle.std.specs.Prelude.{◌==◌, OnOk, OnErr}
 use Rattle.std.specs.Io.KnownBytes.{Appends}
-use Rattle.fp_io.specs.Content.{AppendsFront}
-use Rattle.fp_io.proofs.Fronts.{appends_nothing}
+use Rattle.fp_io.specs.Content.{AppendsPrefix}
+use Rattle.fp_io.proofs.Prefixes.{appends_nothing}
 use Rattle.machine.proofs.state.Machine.put_line.Goals as goal
 
 none : (bytes : List ℕ) → (length bytes == 0) ≡ true → bytes ≡ []
@@ -39,7 +39,7 @@ returns g c =
           subst (λ (line : List ℕ). OnOk c.put.result (Appends before after line)) shown
           c.put.ensures.ok;
       err =
-          subst (λ (line : List ℕ). OnErr c.put.result (AppendsFront before after line)) shown
+          subst (λ (line : List ℕ). OnErr c.put.result (AppendsPrefix before after line)) shown
           c.put.ensures.err;
       failed = c.put.ensures.failed;
       counted = c.put.ensures.counted;

@@ -10,22 +10,22 @@ use Rattle.selfrun.proofs.line_fold.LineFolder.line.Goals.{in-Nothing, in-Reg, i
 
 pub returns : goal.returns
 returns c =
-    let front : ℕ = c.fold-front.result in
-    let with_effect : Effect → ℕ = λ x. fold_of front (effect_text x) in
+    let prefix : ℕ = c.fold-prefix.result in
+    let with_effect : Effect → ℕ = λ x. fold_of prefix (effect_text x) in
     let shown : c.match-effect.shown ≡ with_effect c.args.effect.now =
     elim c.match-effect.branch [
       | in-Nothing w ↦
-          w.shown-is ∙ w.with_byte-shown.ensures ∙ of_nothing front
+          w.shown-is ∙ w.with_byte-shown.ensures ∙ of_nothing prefix
           ∙ ap with_effect (sym w.in-Nothing.is)
       | in-Reg w ↦
-          w.shown-is ∙ w.register-shown.ensures ∙ of_register front w.in-Reg.rd w.in-Reg.value
+          w.shown-is ∙ w.register-shown.ensures ∙ of_register prefix w.in-Reg.rd w.in-Reg.value
           ∙ ap with_effect (sym w.in-Reg.is)
       | in-Store w ↦
           w.shown-is ∙ w.store-shown.ensures
-          ∙ of_store front w.in-Store.address w.in-Store.size w.in-Store.value
+          ∙ of_store prefix w.in-Store.address w.in-Store.size w.in-Store.value
           ∙ ap with_effect (sym w.in-Store.is)
       | in-Trap w ↦
-          w.shown-is ∙ w.trap-shown.ensures ∙ of_trap front w.in-Trap.cause w.in-Trap.target
+          w.shown-is ∙ w.trap-shown.ensures ∙ of_trap prefix w.in-Trap.cause w.in-Trap.target
           ∙ ap with_effect (sym w.in-Trap.is)
     ] in
     let event : Event = record {
@@ -35,7 +35,7 @@ returns c =
       word = c.args.word;
       effect = c.args.effect.now;
     } in
-    let begun = c.fold-front.ensures
+    let begun = c.fold-prefix.ensures
     ∙ ap (λ x. fold_of x (site_text c.args.pc c.args.word)) c.fold-begun.ensures in
     let whole = shown ∙ ap (λ x. fold_of x (effect_text c.args.effect.now)) begun in
     c.with_byte.ensures ∙ ap (λ x. with_byte x 10) whole ∙ line_parts c.args.h event

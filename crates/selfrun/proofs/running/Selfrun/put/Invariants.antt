@@ -7,7 +7,7 @@ use Rattle.selfrun.proofs.running.Selfrun.put.Given as goal
 
 abbrev pub invariant-loop-k : goal.invariant-loop-k
 invariant-loop-k g l = record {
-  told : Appends (g.K.Sink.taken l.initial.out) (g.K.Sink.taken l.out)
+  contents : Appends (g.K.Sink.taken l.initial.out) (g.K.Sink.taken l.out)
       (flat_map (λ k. tally_line k (tally_at l.self.tallies k)) (range_with_len 0 l.k));
   counted : g.K.Sink.faults l.initial.out ≤ g.K.Sink.faults l.out;
 }

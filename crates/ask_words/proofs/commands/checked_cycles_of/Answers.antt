@@ -1,7 +1,0 @@
-use Rattle.ask_words.proofs.commands.checked_cycles_of.Goals as goal
-
-pub returns-clause-value : goal.returns-clause-value
-returns-clause-value c = c.number_of.ensures.value
-
-pub returns-clause-limit : goal.returns-clause-limit
-returns-clause-limit c = c.number_of.ensures.limit

@@ -1,5 +1,0 @@
-use Rattle.std.proofs.Common.{rules}
-use Rattle.ask_words.proofs.commands.options_of.Goals as goal
-
-pub returns-in-Phases-clause-options : goal.returns-in-Phases-clause-options
-returns-in-Phases-clause-options c = search rules

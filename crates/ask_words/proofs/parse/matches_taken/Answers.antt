@@ -1,7 +1,0 @@
-use Rattle.ask_words.proofs.parse.matches_taken.Goals as goal
-
-pub returns-in-Ok : goal.returns-in-Ok
-returns-in-Ok c = (c.in-Ok.ensures.matches c.requires.simple).0
-
-pub returns-in-Err : goal.returns-in-Err
-returns-in-Err c = tt

@@ -1,5 +1,0 @@
-use Rattle.bound_calc.proofs.AdvanceLaws.{IsLargestBelow}
-use Rattle.bound_calc.proofs.advance.largest.Given as goal
-
-abbrev pub invariant-loop-p : goal.invariant-loop-p
-invariant-loop-p l = IsLargestBelow l.here l.p l.most l.largest

@@ -1,5 +1,0 @@
-use Rattle.bound_calc.proofs.AdvanceLaws.{IsLeftBelow}
-use Rattle.bound_calc.proofs.advance.leave.Given as goal
-
-abbrev pub invariant-loop-p : goal.invariant-loop-p
-invariant-loop-p l = IsLeftBelow l.here l.hops.hops l.p l.most l.farthest

@@ -1,8 +1,0 @@
-use Rattle.std.proofs.Common.{ℕ, ◌<◌}
-use Rattle.region_tree.specs.Search.{address}
-use Rattle.region_tree.specs.Tree.{graph}
-use Rattle.call_bounds.specs.Build.{LeavesAt}
-use Rattle.call_bounds.proofs.escape.way_out.Given as goal
-
-abbrev pub invariant-loop-index : goal.invariant-loop-index
-invariant-loop-index l = (k : ℕ) → k < l.index → LeavesAt (graph l.tree) (address l.tree k) → ⊥

@@ -1,5 +1,0 @@
-use Rattle.std.proofs.Common.{refl}
-use Rattle.command_files.proofs.bound.bound_stop.Goals as goal
-
-pub returns-in-Overflow : goal.returns-in-Overflow
-returns-in-Overflow c = rw c.in-Overflow.is refl

@@ -1,5 +1,0 @@
-use Rattle.std.proofs.Common.{rules}
-use Rattle.command_files.proofs.calls.call_stop.Goals as goal
-
-pub returns : goal.returns
-returns c = search rules

@@ -1,5 +1,0 @@
-use Rattle.std.proofs.Common.{rules}
-use Rattle.command_files.proofs.status.Status.of_refusal.Goals as goal
-
-pub returns-in-Routines : goal.returns-in-Routines
-returns-in-Routines c = search rules

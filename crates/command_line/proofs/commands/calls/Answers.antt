@@ -1,0 +1,13 @@
+use Rattle.std.proofs.Common.{arith}
+use Rattle.std.proofs.lemmas.Grind.{common_steps}
+use Rattle.command_line.proofs.commands.calls.Goals as goal
+
+pub returns-in_ok-setup-in-Some-Some-Some-clause-asked :
+    goal.returns-in_ok-setup-in-Some-Some-Some-clause-asked
+returns-in_ok-setup-in-Some-Some-Some-clause-asked c = grind (arith, common_steps)
+
+pub returns-in_default-clause-refused : goal.returns-in_default-clause-refused
+returns-in_default-clause-refused c = grind (arith, common_steps)
+
+pub returns-then-texts-ne5-clause-refused : goal.returns-then-texts-ne5-clause-refused
+returns-then-texts-ne5-clause-refused c = grind (arith, common_steps)

@@ -1,0 +1,4 @@
+use Rattle.commands.proofs.assembling.source_in.Goals as goal
+
+pub returns-in-Ok-clause-stop : goal.returns-in-Ok-clause-stop
+returns-in-Ok-clause-stop c = tt

@@ -1,0 +1,10 @@
+pub mod Faults
+pub mod LoopFiles
+pub use Rattle.commands.specs.Answer
+pub use Rattle.commands.specs.Program
+pub use Rattle.commands.specs.Status
+pub use Rattle.commands.specs.Stops
+pub use Rattle.fp_io.specs.Causes
+pub use Rattle.fp_io.specs.Content
+pub use Rattle.loop_command_line.specs.Arguments
+pub use Rattle.loop_command_line.specs.Plants

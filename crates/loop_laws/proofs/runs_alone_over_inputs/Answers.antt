@@ -1,7 +1,0 @@
-use Rattle.loop_laws.proofs.Inputs.{input-isolation}
-use Rattle.loop_laws.proofs.runs_alone_over_inputs.Goals as goal
-
-pub returns : goal.returns
-returns c =
-    input-isolation c.runs_alone_in_loop.ensures c.takes_inputs_as_plants.ensures.answered
-    c.takes_inputs_as_plants.ensures.alone

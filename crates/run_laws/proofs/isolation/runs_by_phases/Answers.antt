@@ -1,5 +1,0 @@
-use Rattle.run_laws.proofs.Retired.{phased-from}
-use Rattle.run_laws.proofs.isolation.runs_by_phases.Goals as goal
-
-pub returns : goal.returns
-returns c = phased-from c.runs_by_phases.ensures

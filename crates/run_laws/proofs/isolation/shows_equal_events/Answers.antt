@@ -1,5 +1,0 @@
-use Rattle.run_laws.proofs.Retired.{equal-views-from}
-use Rattle.run_laws.proofs.isolation.shows_equal_events.Goals as goal
-
-pub returns : goal.returns
-returns c = equal-views-from c.shows_equal_events.ensures

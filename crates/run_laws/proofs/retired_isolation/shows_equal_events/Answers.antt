@@ -1,5 +1,0 @@
-use Rattle.run_laws.proofs.Equal.{retired-equal-views}
-use Rattle.run_laws.proofs.retired_isolation.shows_equal_events.Goals as goal
-
-pub returns : goal.returns
-returns c = retired-equal-views c.runs_alone.ensures

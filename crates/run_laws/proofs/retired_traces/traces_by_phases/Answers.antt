@@ -1,5 +1,0 @@
-use Rattle.run_laws.proofs.Traces.{retired-trace-by-phases}
-use Rattle.run_laws.proofs.retired_traces.traces_by_phases.Goals as goal
-
-pub returns : goal.returns
-returns c = retired-trace-by-phases c.runs_by_phases.ensures

@@ -1,5 +1,0 @@
-use Rattle.run_laws.proofs.Traces.{retired-equal-traces}
-use Rattle.run_laws.proofs.retired_traces.writes_equal_traces.Goals as goal
-
-pub returns : goal.returns
-returns c = retired-equal-traces c.traces_alone.ensures

@@ -1,5 +1,0 @@
-use Rattle.run_laws.proofs.Retired.{equal-traces-from}
-use Rattle.run_laws.proofs.setup_traces.writes_equal_traces.Goals as goal
-
-pub returns : goal.returns
-returns c = equal-traces-from c.writes_equal_traces.ensures

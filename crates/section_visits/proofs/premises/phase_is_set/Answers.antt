@@ -1,5 +1,0 @@
-use Rattle.section_visits.proofs.Starts.{phase-sets}
-use Rattle.section_visits.proofs.premises.phase_is_set.Goals as goal
-
-pub returns : goal.returns
-returns c = phase-sets c.tells_picks.ensures

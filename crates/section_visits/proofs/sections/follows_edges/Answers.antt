@@ -1,5 +1,0 @@
-use Rattle.section_visits.proofs.Links.{follows-from}
-use Rattle.section_visits.proofs.sections.follows_edges.Goals as goal
-
-pub returns : goal.returns
-returns c = follows-from c.follows_edges_in_settings.ensures

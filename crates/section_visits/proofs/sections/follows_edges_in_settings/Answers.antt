@@ -1,5 +1,0 @@
-use Rattle.section_visits.proofs.Links.{issues_in_settings}
-use Rattle.section_visits.proofs.sections.follows_edges_in_settings.Goals as goal
-
-pub returns : goal.returns
-returns c = issues_in_settings
