@@ -1,5 +1,4 @@
 """The model as a program: `python3 -m model run examples/drive.toml --thread 0 --cycles 77`."""
-from __future__ import annotations
 
 import sys
 

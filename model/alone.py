@@ -1,5 +1,4 @@
 """One thread by itself, from its own view of the setup, the image and its port."""
-from __future__ import annotations
 
 from collections.abc import Callable, Mapping, Sequence
 

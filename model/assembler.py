@@ -1,5 +1,4 @@
 """The assembler: the image of a source, or its first fault."""
-from __future__ import annotations
 
 from collections.abc import Callable, Iterator, Sequence
 from dataclasses import dataclass, field

@@ -1,5 +1,4 @@
 """Words of 32 bits, fields of bits, and nibbles."""
-from __future__ import annotations
 
 from collections.abc import Iterable
 

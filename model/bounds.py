@@ -1,5 +1,4 @@
 """The bound of a section by the largest costs between positions of the frame, loop by loop and routine by routine."""
-from __future__ import annotations
 
 from collections.abc import Mapping, Sequence
 

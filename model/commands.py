@@ -1,5 +1,4 @@
 """The commands over files, a sink and eight ports: the text that is written, in which puts, and the status."""
-from __future__ import annotations
 
 import sys
 from collections.abc import Callable, Iterator, Sequence

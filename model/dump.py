@@ -1,5 +1,4 @@
 """The visible state of the machine after a number of cycles: the pipeline, and state that is some cycles old."""
-from __future__ import annotations
 
 from collections.abc import Iterator
 

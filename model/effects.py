@@ -1,5 +1,4 @@
 """The changes of an issue, and the lines of a trace."""
-from __future__ import annotations
 
 from collections.abc import Iterable
 from dataclasses import dataclass

@@ -1,5 +1,4 @@
 """Executables: the image of an ELF file, or its first fault."""
-from __future__ import annotations
 
 from dataclasses import dataclass
 from typing import NamedTuple

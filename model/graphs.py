@@ -1,5 +1,4 @@
 """The control-flow graph of a section and of the routines that it calls, and why it has no bound."""
-from __future__ import annotations
 
 from collections.abc import Callable, Iterable, Iterator, Sequence
 from dataclasses import dataclass

@@ -1,5 +1,4 @@
 """Images: the segments of the format FPX1, or the first fault of a file."""
-from __future__ import annotations
 
 from dataclasses import dataclass
 

@@ -1,5 +1,4 @@
 """Words as instructions and back, the results of instructions, and their lags."""
-from __future__ import annotations
 
 from collections.abc import Callable
 from dataclasses import dataclass

@@ -1,5 +1,4 @@
 """Closed loops: a thread whose port shows the response of a plant to the thread's own stores there."""
-from __future__ import annotations
 
 from bisect import bisect_right
 from collections.abc import Callable, Iterable, Mapping, Sequence

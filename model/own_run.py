@@ -1,5 +1,4 @@
 """The machine's own run: eight programs drawn from a number, and the tally of each thread's trace."""
-from __future__ import annotations
 
 from collections.abc import Iterator
 from functools import cache

@@ -1,5 +1,4 @@
 """Devices at the ports of threads: their words, their latches, and their calls."""
-from __future__ import annotations
 
 from bisect import bisect_right
 

@@ -1,5 +1,4 @@
 """The commands of command lines."""
-from __future__ import annotations
 
 import re
 from collections.abc import Sequence

@@ -1,5 +1,4 @@
 """Refusal lines, as bytes with their line feed, and the numbers and names of faults."""
-from __future__ import annotations
 
 from enum import IntEnum
 

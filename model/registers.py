@@ -1,5 +1,4 @@
 """The configuration registers: slots, modes and regions, and the rights that they give."""
-from __future__ import annotations
 
 from collections.abc import Sequence
 

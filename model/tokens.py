@@ -1,5 +1,4 @@
 """The tokens of a line of a source, or its leftmost fault."""
-from __future__ import annotations
 
 from dataclasses import dataclass
 from enum import Enum

@@ -1,5 +1,4 @@
 """The bound of a section by its definition: the largest cost of a path, of all paths one by one."""
-from __future__ import annotations
 
 from collections.abc import Iterator
 from dataclasses import dataclass

@@ -4,7 +4,6 @@ Each is a wrong body that the prover must refuse. They have the form of those in
 The script copies the sources, puts these edits in the place of the gate's, and calls `rt must-fail` for one crate after the
 other. The log has all that `rt` writes. The status is 0 if each edit is refused, 1 if one isn't, and 2 for a wrong argument.
 """
-from __future__ import annotations
 
 import argparse
 import re
@@ -19,6 +18,7 @@ from dataclasses import dataclass
 from pathlib import Path
 
 from dev.program import TOP
+from fptools.launch.up_to_date import Checkout
 
 MOVED = TOP / "dev/mutants/edits"
 """The edits that the gate leaves out, in a folder for each crate."""
@@ -117,18 +117,8 @@ def changed_crates(commit: str) -> set[str]:
 
 def libraries_below(crates: Iterable[str]) -> set[str]:
     """These crates and the crates of this repository that they use."""
-    uses = {}
-    for line in (TOP / "crates.txt").read_text().splitlines():
-        name, colon, libraries = line.partition("#")[0].partition(":")
-        if colon:
-            uses[name.split()[0]] = libraries.split()
-    found, todo = set(), list(crates)
-    while todo:
-        crate = todo.pop()
-        if crate in uses and crate not in found:
-            found.add(crate)
-            todo += uses[crate]
-    return found
+    known = Checkout(TOP, "").libraries()
+    return {one for it in crates if it in known for one in Checkout(TOP, it).crates()}
 
 
 def copy_sources(folder: Path, crates: Sequence[str]) -> None:

@@ -103,19 +103,6 @@ class Log:
 # ---------------------------------------------------------------- the whole
 
 
-def outcomes(
-    crate: str, todo: list[Drawn], bench: Bench, options: argparse.Namespace, stop: Event
-) -> Iterator[Outcome]:
-    """The verdicts on changes of a crate, in rounds or one at a time."""
-    rounds = Rounds(bench, crate, bench.prove_unchanged(crate), stop, options.rounds)
-    if not options.alone:
-        yield from rounds.outcomes(todo)
-        return
-    for drawn in todo:
-        if not stop.is_set():
-            yield rounds.tried_alone(drawn)
-
-
 @contextlib.contextmanager
 def scratch(given: Path | None) -> Iterator[Path]:
     """The folder of the copies. A given one is kept, with the results of checks in it; a temporary one is removed."""
@@ -140,7 +127,8 @@ def try_all(todo: dict[str, list[Drawn]], log: Log, options: argparse.Namespace)
                 return
             bench = benches.get()
             try:
-                for outcome in outcomes(crate, todo[crate], bench, options, stop):
+                rounds = Rounds(bench, crate, bench.prove_unchanged(crate), stop)
+                for outcome in rounds.outcomes(todo[crate]):
                     log.add(tried_of(outcome))
             finally:
                 benches.put(bench)
@@ -186,12 +174,6 @@ def parsed() -> argparse.Namespace:
         help="a crate to draw from, may be repeated (left out: all libraries)",
     )
     add(
-        "--only",
-        action="append",
-        metavar="NAME",
-        help="a crate whose changes are tried, may be repeated, in this order (left out: all that are drawn from)",
-    )
-    add(
         "--resume",
         type=Path,
         metavar="FILE",
@@ -199,41 +181,28 @@ def parsed() -> argparse.Namespace:
     )
     add("--jobs", type=int, default=1, metavar="N", help="how many crates at a time")
     add("--seconds", type=float, default=SECONDS, metavar="S", help="the time of a check")
-    add("--alone", action="store_true", help="tries each change in a check of its own")
-    add(
-        "--rounds",
-        type=int,
-        metavar="N",
-        help="how many rounds of a crate at most; a later call tries the rest",
-    )
     add(
         "--scratch",
         type=Path,
         metavar="DIR",
         help="where the copies are made, some 2 GB each, and stay for the next call (left out: a folder that goes again)",
     )
-    add("--list", action="store_true", help="shows the changes as diffs, and tries none")
     return parser.parse_args()
 
 
 def main() -> int:
     options = parsed()
     crates = options.crate or library_crates()
-    tried_crates = options.only or crates
-    if unknown := sorted({*crates, *tried_crates} - set(library_crates())):
+    if unknown := sorted({*crates} - set(library_crates())):
         sys.exit(f'no library crate: {", ".join(unknown)}')
     urn = urn_of(sorted(set(crates)))
     drawn = list(urn.all_drawn(options.seed, options.count))
-    if options.list:
-        for one in drawn:
-            print(f"{one.number}: {one.change.kind} in {one.change.function}\n{one.diff()}")
-        return 0
     log = Log(options.resume, urn, options.seed)
     for number in (signal.SIGINT, signal.SIGTERM):
         signal.signal(number, signal.default_int_handler)
     todo = {
         crate: [one for one in drawn if one.crate == crate and not log.has(one.number)]
-        for crate in tried_crates
+        for crate in crates
     }
     try_all({crate: some for crate, some in todo.items() if some}, log, options)
     print_table([log.tried[one.number] for one in drawn if one.number in log.tried])

@@ -118,10 +118,8 @@ class Rounds:
         crate: str,
         symbols: list[str],
         stop: threading.Event,
-        most: int | None = None,
     ) -> None:
-        """`most` limits the rounds. Changes that still wait then aren't tried, nor are changes in no function."""
-        self.bench, self.crate, self.stop, self.left = bench, crate, stop, most
+        self.bench, self.crate, self.stop = bench, crate, stop
         self.places = Places(crate, symbols)
         self.waiting: dict[tuple[str, ...], deque[Trial]] = {}
         self.alone: list[Drawn] = []
@@ -146,12 +144,8 @@ class Rounds:
             yield self.tried_alone(self.alone.pop(0))
 
     def queues(self) -> list[deque[Trial]]:
-        """The functions of the next round: those with the most waiting changes come first. After the last round only those
-        whose answers were removed are left."""
-        queues = sorted(filter(None, self.waiting.values()), key=len, reverse=True)
-        if self.left is not None and self.left <= 0:
-            queues = [queue for queue in queues if queue[0].tries]
-        return queues[:MOST]
+        """The functions of the next round: those with the most waiting changes come first."""
+        return sorted(filter(None, self.waiting.values()), key=len, reverse=True)[:MOST]
 
     def tried_alone(self, drawn: Drawn) -> Outcome:
         began = time.monotonic()
@@ -162,7 +156,6 @@ class Rounds:
 
     def round(self, queues: list[deque[Trial]]) -> Iterator[Outcome]:
         """Judges the first waiting change of each of these functions."""
-        self.left = None if self.left is None else self.left - 1
         for outcome in self.judged([queue[0] for queue in queues]):
             trial = self.waiting[self.symbols_of(outcome.drawn)].popleft()
             self.put_back(trial)

@@ -1,5 +1,4 @@
 """Short names for instructions, and code as bytes."""
-from __future__ import annotations
 
 from collections.abc import Iterable
 

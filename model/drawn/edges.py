@@ -1,5 +1,4 @@
 """Drawn worlds whose calculations have operands at the edges of their range, such as the smallest number, -1 and 0."""
-from __future__ import annotations
 
 from model.bits import word
 from model.drawn.code import arithmetic, branch, li, muldiv, shift

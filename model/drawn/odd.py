@@ -1,13 +1,12 @@
 """Drawn worlds with raw words and odd addresses: ends of memory, pcs that wrap, frames of any
 length, moments with high words, traps in a row."""
-from __future__ import annotations
 
 import random
 from collections.abc import Callable, Sequence
-from dataclasses import dataclass
 
 from model.bits import word
 from model.images import DATA, Image
+from model.instructions import DE_FUNCT3, OP, TIMING, b_word, i_word, j_word, r_word, s_word
 from model.registers import DREGIONS, IREGIONS, MCAUSE, MEPC, MHARTID, MODES, MSCRATCH, MTVEC, SLOTS
 from model.setups import LARGE, SMALL, THREADS
 
@@ -30,26 +29,6 @@ KINDS: dict[str, float] = {
 
 WEIGHT_OF_WRITES = 5
 """How often a word uses a configuration register, if code does so at all."""
-
-
-@dataclass(frozen=True)
-class Fields:
-    """The fields of an instruction word besides its opcode."""
-
-    rd: int = 0
-    funct3: int = 0
-    rs1: int = 0
-    rs2: int = 0
-    funct7: int = 0
-
-    def word(self, opcode: int) -> int:
-        upper = self.funct7 << 25 | self.rs2 << 20 | self.rs1 << 15
-        return upper | self.funct3 << 12 | self.rd << 7 | opcode
-
-
-def with_immediate(opcode: int, rd: int, funct3: int, rs1: int, value: int) -> int:
-    """A word whose upper twelve bits are an immediate."""
-    return (value & 0xFFF) << 20 | Fields(rd, funct3, rs1).word(opcode)
 
 
 class OddWorld:
@@ -152,7 +131,7 @@ class OddWorld:
     def _immediate(self) -> int:
         chance = self.chance
         value = chance.choice([0, 1, -1, 4, 31, 0x41F, chance.randrange(-2048, 2048)])
-        return with_immediate(0x13, self._register(), chance.randrange(8), self._register(), value)
+        return i_word(0x13, self._register(), chance.randrange(8), self._register(), value)
 
     def _small(self) -> int:
         """A small number for a register: a moment, an offset or a place of code."""
@@ -160,7 +139,7 @@ class OddWorld:
         moment = self.period * chance.randrange(40) % 2048
         value = chance.choice([moment, chance.randrange(2048), 4 * chance.randrange(64)])
         source = chance.choice([0, self._register()])
-        return with_immediate(0x13, self._register(), 0, source, value)
+        return i_word(0x13, self._register(), 0, source, value)
 
     def _register_word(self) -> int:
         return self._calculation(self.chance.choice([0, 0, 0, 0x20]))
@@ -170,7 +149,7 @@ class OddWorld:
 
     def _calculation(self, funct7: int) -> int:
         reg, funct3 = self._register, self.chance.randrange(8)
-        return Fields(reg(), funct3, reg(), reg(), funct7).word(0x33)
+        return r_word(OP, reg(), funct3, reg(), reg(), funct7)
 
     def _offset(self, near: Sequence[int]) -> int:
         return self.chance.choice([*near, self.chance.randrange(-2048, 2048)])
@@ -179,34 +158,29 @@ class OddWorld:
         chance = self.chance
         funct3 = chance.choice([0, 1, 2, 2, 2, 4, 5, chance.randrange(8)])
         offset = self._offset([0, 0, 4, 8, 1, 2, 3, -4])
-        return with_immediate(0x03, self._register(), funct3, self._register(), offset)
+        return i_word(0x03, self._register(), funct3, self._register(), offset)
 
     def _store(self) -> int:
         chance = self.chance
         funct3 = chance.choice([0, 1, 2, 2, 2, chance.randrange(8)])
-        offset = self._offset([0, 0, 4, 8, 1, 2, 3, -4]) & 0xFFF
-        reg = self._register
-        return Fields(offset & 31, funct3, reg(), reg(), offset >> 5).word(0x23)
+        offset = self._offset([0, 0, 4, 8, 1, 2, 3, -4])
+        return s_word(funct3, self._register(), self._register(), offset)
 
     def _branch(self) -> int:
         chance = self.chance
-        offset = chance.choice([8, 12, 16, -4, -8, -20, 6, 2, 40]) & 0x1FFF
+        offset = chance.choice([8, 12, 16, -4, -8, -20, 6, 2, 40])
         funct3 = chance.choice([0, 1, 4, 5, 6, 7, chance.randrange(8)])
-        low = offset >> 11 & 1 | (offset >> 1 & 15) << 1
-        high = (offset >> 12) << 6 | offset >> 5 & 63
-        return Fields(low, funct3, self._register(), self._register(), high).word(0x63)
+        return b_word(funct3, self._register(), self._register(), offset)
 
     def _jal(self) -> int:
-        offset = self.chance.choice([8, 16, -8, -40, 6, self.region, -self.region]) & 0x1FFFFF
-        fields = offset >> 20 << 31 | (offset >> 1 & 0x3FF) << 21 | (offset >> 11 & 1) << 20
-        rd = self.chance.choice([0, 1, self._register()])
-        return fields | (offset >> 12 & 0xFF) << 12 | rd << 7 | 0x6F
+        offset = self.chance.choice([8, 16, -8, -40, 6, self.region, -self.region])
+        return j_word(self.chance.choice([0, 1, self._register()]), offset)
 
     def _jalr(self) -> int:
         chance = self.chance
         offset = chance.choice([0, 1, 2, 3, 4, -4, 64, 128])
         funct3 = chance.choice([0, 0, 0, 0, chance.randrange(8)])
-        return with_immediate(0x67, self._register(), funct3, self._register(), offset)
+        return i_word(0x67, self._register(), funct3, self._register(), offset)
 
     def _csr(self) -> int:
         chance = self.chance
@@ -220,17 +194,17 @@ class OddWorld:
     def _csr_word(self, number: int, functs: Sequence[int]) -> int:
         chance = self.chance
         source = chance.choice([0, self._register(), chance.randrange(32)])
-        return with_immediate(0x73, self._register(), chance.choice(functs), source, number)
+        return i_word(0x73, self._register(), chance.choice(functs), source, number)
 
     def _timing(self) -> int:
         chance = self.chance
         if chance.random() < 0.15:
-            return Fields(funct3=5).word(0x0B)
+            return r_word(TIMING, funct3=DE_FUNCT3)
         high = chance.choice([0, 0, 0, self._register()])
-        return Fields(0, chance.choice([2, 3, 3, 4, 4, 5]), high, self._register()).word(0x0B)
+        return r_word(TIMING, 0, chance.choice([2, 3, 3, 4, 4, 5]), high, self._register())
 
     def _gt(self) -> int:
-        return Fields(self._register(), self.chance.randrange(2)).word(0x0B)
+        return r_word(TIMING, self._register(), self.chance.randrange(2))
 
 
 def listed(names: Sequence[str]) -> str:

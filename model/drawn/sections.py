@@ -1,5 +1,4 @@
 """Sections of code with loops, in a frame of slots."""
-from __future__ import annotations
 
 import random
 

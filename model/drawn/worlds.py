@@ -1,7 +1,6 @@
 """Setups with images and ports: hard, soft and sleeping threads, permits and writes of configuration registers, expiry,
 waits, inputs and unplugging, both sizes. A seed always gives the same; worlds.txt and settings.txt name their cases by
 it."""
-from __future__ import annotations
 
 import random
 from collections.abc import Callable, Sequence

@@ -1,1 +1,1 @@
-"""The tables of the crates `unit_rows` and `command_rows`: how they are written, verified and drawn."""
+"""The tables of the crates `test_units` and `test_commands`: how they are written, verified and drawn."""

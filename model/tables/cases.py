@@ -1,6 +1,5 @@
 """The tables of commands: devices and files, and command lines over them with their answers; commands.txt describes
 their form."""
-from __future__ import annotations
 
 import math
 from collections.abc import Iterator, Sequence

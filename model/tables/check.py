@@ -1,6 +1,5 @@
 """Verifies the tables: computes the answer of each row with the model and compares, and compares the rows of other
 tools with these too. `python3 -m model.tables.check`"""
-from __future__ import annotations
 
 import argparse
 import sys

@@ -1,5 +1,4 @@
 """Draws a new table from a seed, in the form of the stored one: `python3 -m model.tables.draw TABLE --seed N > FILE`"""
-from __future__ import annotations
 
 import argparse
 import sys

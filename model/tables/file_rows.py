@@ -1,5 +1,4 @@
 """images.txt, elf.txt, routines.txt and setups.txt: the values of files, or their first faults."""
-from __future__ import annotations
 
 from collections.abc import Iterator
 
@@ -104,7 +103,7 @@ def read_setup_answer(data: bytes) -> str:
 
 
 def setup_of_words() -> Setup:
-    """The setup that `unit_rows` makes of its registers' words."""
+    """The setup that `test_units` makes of its registers' words."""
     threads = [
         ThreadSetup(HARD if k < 4 else SOFT, 2048 * k, confined=k < 4) for k in range(THREADS)
     ]

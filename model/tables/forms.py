@@ -1,13 +1,12 @@
 """How the tables write bytes and numbers."""
-from __future__ import annotations
 
 import re
 from itertools import groupby
 from pathlib import Path
 
 TOP = Path(__file__).resolve().parents[2]
-UNIT_ROWS = TOP / "crates/unit_rows/data"
-COMMAND_ROWS = TOP / "crates/command_rows/data"
+UNIT_ROWS = TOP / "crates/test_units/data"
+COMMAND_ROWS = TOP / "crates/test_commands/data"
 
 Row = tuple[str, "str | None"]
 """The name of a row, and its difference: empty if there is none, and None if it couldn't be compared."""

@@ -1,5 +1,4 @@
 """decode.txt and gnu.txt, compared with GNU as and GNU ld: the words that these make of the same text."""
-from __future__ import annotations
 
 import re
 import tempfile

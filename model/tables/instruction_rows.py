@@ -1,5 +1,4 @@
 """instructions.txt, decode.txt and results.txt: instructions and their effects."""
-from __future__ import annotations
 
 from model.instructions import (
     LOAD_SIZE, STORE_SIZE, Ins, decode, encode, lag, load_value, outcome, store_lanes,

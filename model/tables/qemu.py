@@ -1,5 +1,4 @@
 """results.txt, compared with qemu-riscv32: its results of the same instructions, each at its address."""
-from __future__ import annotations
 
 import struct
 import tempfile

@@ -1,5 +1,4 @@
 """programs.txt, solo.txt and bounds.txt: runs of the machine and of one thread, and bounds of sections."""
-from __future__ import annotations
 
 from collections.abc import Iterator
 
@@ -39,7 +38,7 @@ def program_setup(slots: int, modes: int, second: int) -> Setup:
 
 
 def machine_answer() -> str:
-    """The trace of the machine that `unit_rows` makes field by field."""
+    """The trace of the machine that `test_units` makes field by field."""
     code = {
         0: 0x00100293,
         4: 0x00002303,

@@ -1,5 +1,4 @@
 """bounds.txt and calls.txt: sections that are drawn, with their bounds or refusals."""
-from __future__ import annotations
 
 import random
 from collections.abc import Iterator

@@ -1,6 +1,5 @@
 """lines.txt, tokens.txt, words.txt, sources.txt, gnu.txt and longest.txt: lines that are written, and texts that are
 read."""
-from __future__ import annotations
 
 from collections.abc import Callable
 

@@ -1,6 +1,5 @@
 """decode.txt, gnu.txt and results.txt: the results of GNU as, GNU ld and qemu-riscv32 for drawn instructions and
 lines."""
-from __future__ import annotations
 
 import random
 import tempfile

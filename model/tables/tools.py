@@ -1,5 +1,4 @@
 """GNU as, GNU ld, lld and qemu-riscv32, as Debian packs them."""
-from __future__ import annotations
 
 import shutil
 import struct

@@ -1,5 +1,4 @@
 """units.txt and sections.txt: the answers of the units of the machine and of a tree of sections."""
-from __future__ import annotations
 
 from collections.abc import Callable
 

@@ -1,5 +1,4 @@
 """worlds.txt and settings.txt: cases of drawn setups, each named by its seed."""
-from __future__ import annotations
 
 import random
 from collections.abc import Iterator
