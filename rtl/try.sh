@@ -6,18 +6,20 @@ set -u
 here=$(dirname "$(readlink -f "${BASH_SOURCE[0]}")")
 top=$(dirname "$here")
 program=$(readlink -f "${FLEXPRET:-$top/flexpret}")
-export FLEXPRET=$program
 
 work=$(mktemp -d)
 trap 'rm -rf "$work"' EXIT
-mkdir -p "$work/folder/rtl"
-cd "$work/folder" || exit 1
-ln -s "$program" flexpret
-ln -s "$top/examples" "$top/tools" .
-cp "$here"/{Makefile,flexpret.sv,driver.cpp,state.vlt,simulate} rtl
 
 # shellcheck source=examples/shown.bash
 . "$top/examples/shown.bash"
+FLEXPRET=$(as_script "$program" "$work/script" "$top")
+export FLEXPRET
+mkdir -p "$work/folder/rtl"
+cd "$work/folder" || exit 1
+ln -s "$FLEXPRET" flexpret
+ln -s "$top/examples" "$top/tools" .
+cp "$here"/{Makefile,flexpret.sv,driver.cpp,state.vlt,simulate} rtl
+
 read_page "$top/docs/FLEXPRET.md"
 read_page "$here/README.md"
 

@@ -77,7 +77,7 @@ complete -o filenames -F _flexpret flexpret ./flexpret
 _flexpret_view_options() {
     local command options='--from --to --konata --vcd --svg'
     for command in "${COMP_WORDS[@]:1}"; do
-        [ "$command" != turns ] || options+=' --progress'
+        [ "$command" != turns ] || options+=' --state --progress'
         [ "$command" != show ] ||
             options+=' --around --before --after --within --elf --map --src --threads --mark --zoom --stages --view --flexpret'
     done

@@ -58,7 +58,7 @@ sys.exit(4 if sys.version_info < (3, 11) else 0 if all(map(importlib.util.find_s
 # tool NAME ARGUMENT..: calls a tool of tools/ with this program, for those that run one. A tool without its packages ends with NOT_BUILT.
 tool() {
     [ -x "$top/tools/$1" ] || stop "$NOT_BUILT" "tools/$1 isn't there"
-    env "$variable=$program" FLEXPRET_NOT_STARTED=$NOT_BUILT "$(tools_python)" "$top/tools/$1" "${@:2}"
+    env "$variable=$program" FLEXPRET_QUIET="$quiet" FLEXPRET_NOT_STARTED=$NOT_BUILT "$(tools_python)" "$top/tools/$1" "${@:2}"
 }
 
 # name_program FILE: the value of --use, once.

@@ -1,5 +1,4 @@
 """Makes a wheel of the packages, as pip asks for one (PEP 517). It needs Python alone, so that `pip install .` needs no network."""
-from __future__ import annotations
 
 import base64
 import hashlib

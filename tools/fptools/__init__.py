@@ -1,5 +1,4 @@
 """The common parts of the tools, and readers for scripts: tools/README.md lists them. None of it is proved."""
-from __future__ import annotations
 
 import importlib.util
 import os

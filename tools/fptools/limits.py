@@ -3,6 +3,9 @@
 MOST_CYCLES = 4_000_000_000
 """The most cycles of a run."""
 
+MOST_PICTURE = 2000
+"""The most cycles of a picture."""
+
 THREADS = 8
 SMALL, LARGE = 16_384, 65_536
 """The bytes of a scratchpad, by `version` 1 and 2."""

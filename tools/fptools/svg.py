@@ -1,5 +1,4 @@
 """SVG as texts. What is written between tags and in attributes is escaped; numbers have six digits at most."""
-from __future__ import annotations
 
 from html import escape
 

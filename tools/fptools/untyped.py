@@ -1,5 +1,4 @@
 """The types of what formats and packages give without types."""
-from __future__ import annotations
 
 from typing import Any
 

@@ -1,5 +1,4 @@
 """The reason why the assembler refuses a source: the place in the line, the expected text, and the remedy."""
-from __future__ import annotations
 
 from dataclasses import dataclass, replace
 from typing import Callable, Iterator
@@ -7,7 +6,7 @@ from typing import Callable, Iterator
 from fptools.asm.places import RANGES, Line, Placed, Placer, address_of, labels_in, signed
 from fptools.asm.statements import OPERANDS, REGISTERS, SHORT, Expected, Operand, near, operands_of
 from fptools.asm.tokens import MOST_TOKENS, Lex, LexFault, SourceNo, lines_of, tokens
-from fptools.isa.instructions import BY_NAME
+from fptools.isa.encodings import BY_NAME
 from fptools.limits import DATA_START, MOST_SEGMENTS, SMALL
 
 MOST_BYTES = 1_048_576
@@ -270,7 +269,7 @@ REMEDIES = {
     "j": "la the address to a register, and jr",
     "h": "", "z": "",
 }  # fmt: skip
-"""What to do about a number that is out of its range, by its letter in isa.instructions."""
+"""What to do about a number that is out of its range, by its letter in isa.encodings."""
 
 
 def _letter_of(name: str) -> str:

@@ -1,5 +1,4 @@
 """Where the lines of a source place words, and which words: the two passes of the assembler."""
-from __future__ import annotations
 
 from collections.abc import Sequence
 from dataclasses import dataclass, field
@@ -7,7 +6,7 @@ from functools import cached_property
 
 from fptools.asm.statements import FIXED, OPERANDS, SHORT, Operand, operands_of
 from fptools.asm.tokens import LineFault, SourceNo, Token, lines_of, tokens
-from fptools.isa.instructions import BY_NAME
+from fptools.isa.encodings import BY_NAME
 from fptools.limits import DATA_START, SMALL
 
 LAST_WORD = 2**32 - 1
@@ -15,7 +14,7 @@ RANGES = {
     "i": (-2048, 2047), "o": (-2048, 2047), "h": (0, 31), "z": (0, 31), "u": (0, (1 << 20) - 1), "c": (0, 4095),
     "b": (-4096, 4094), "j": (-(1 << 20), (1 << 20) - 2),
 }  # fmt: skip
-"""The least and the largest number of an operand, by its letter in isa.instructions; of a branch or jump, that of the bytes to its target."""
+"""The least and the largest number of an operand, by its letter in isa.encodings; of a branch or jump, that of the bytes to its target."""
 
 
 class SourceFault(Exception):

@@ -1,7 +1,6 @@
 """Sources of the assembler: where each word of an image comes from, and the texts of words.
 
 Tokens, mnemonics and faults are those of the program's assembler, as docs/FORMATS.md has them; tests compare the two."""
-from __future__ import annotations
 
 import os
 import re
@@ -11,7 +10,7 @@ from pathlib import Path
 from typing import Iterator, Mapping
 
 from fptools.asm.places import Label, Placed
-from fptools.isa.instructions import FENCE, FENCE_I, decode, get, target
+from fptools.isa.encodings import FENCE, FENCE_I, decode, get, target
 from fptools.limits import LARGE
 
 LABEL = re.compile(r"[A-Za-z_.][A-Za-z0-9_.]*")

@@ -1,12 +1,11 @@
 """The mnemonics of the assembler, and the operands that they take."""
-from __future__ import annotations
 
 import difflib
 from collections.abc import Callable, Sequence
 from dataclasses import dataclass, replace
 
 from fptools.asm.tokens import LineFault, SourceNo, Token
-from fptools.isa.instructions import FENCE, FENCE_I, FORMS
+from fptools.isa.encodings import FENCE, FENCE_I, FORMS
 
 REGISTERS = {
     **{f"x{k}": k for k in range(32)}, "zero": 0, "ra": 1, "sp": 2, "gp": 3, "tp": 4, "fp": 8, "s0": 8, "s1": 9,

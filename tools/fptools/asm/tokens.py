@@ -1,5 +1,4 @@
 """The tokens of a line of a source, and the codes of refused sources. docs/FORMATS.md has their rules."""
-from __future__ import annotations
 
 import re
 from dataclasses import dataclass

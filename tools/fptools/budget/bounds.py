@@ -6,6 +6,7 @@ from dataclasses import replace
 from pathlib import Path
 from typing import Mapping, Sequence
 
+from fptools.code.digraph import search
 from fptools.files.elf import Function
 from fptools.program.calls import Answer, Flexpret
 from fptools.code.section import walk
@@ -19,14 +20,9 @@ def called_functions(
 ) -> list[Function]:
     """The functions that a section reaches by calls that come back."""
     apart = {it.start: it for it in functions if it.end <= start or end <= it.start}
-    reached: dict[int, Function] = {}
-    ahead = list(walk(code, start, end, apart).callees)
-    while ahead:
-        head = ahead.pop()
-        if head not in reached:
-            reached[head] = apart[head]
-            ahead += walk(code, head, apart[head].end, apart).callees
-    return sorted(reached.values())
+    first = walk(code, start, end, apart).callees
+    heads = search(first, lambda it: walk(code, it, apart[it].end, apart).callees)
+    return sorted(apart[head] for head in heads)
 
 
 def _call_of(

@@ -9,7 +9,7 @@ from pathlib import Path
 from typing import Mapping
 
 from fptools.budget.files import Assumption, Budget, LoopFact, Result, Verdict
-from fptools.budget.budgets import Asked, Judge, Unknown
+from fptools.budget.judge import Asked, Judge, Unknown
 from fptools.files.elf import Function, Program, ProgramError
 from fptools.files.image import write_image
 from fptools.flow.inference import StatedLoop

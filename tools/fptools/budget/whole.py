@@ -16,8 +16,8 @@ from pathlib import Path
 from typing import Sequence
 
 from fptools.budget.files import Assumption, Budget, PeriodOf, Result, Verdict
-from fptools.budget.budgets import Judge
-from fptools.budget.judged import judged
+from fptools.budget.judge import Judge
+from fptools.budget.results import judged
 from fptools.period.periods import results_of
 from fptools.files.setup import Setup, ThreadTable
 from fptools.stack.stacks import Stack

@@ -5,10 +5,24 @@ a tool runs. The tests compare the answers with networkx."""
 from __future__ import annotations
 
 from collections import defaultdict
-from typing import Collection, Generic, Hashable, Iterable, Iterator, Mapping, TypeVar
+from typing import Callable, Collection, Generic, Hashable, Iterable, Iterator, Mapping, TypeVar
 
 N = TypeVar("N", bound=Hashable)
 Edges = Mapping[N, Collection[N]]
+
+
+def search(
+    firsts: Iterable[N], onward: Callable[[N], Iterable[N]], closed: Collection[N] = ()
+) -> Iterator[N]:
+    """What paths from some nodes reach that pass none of the closed ones, each node once, depth first.
+    `onward` is called for a node when the one after it is asked for."""
+    ahead, seen = list(firsts), {*closed}
+    while ahead:
+        node = ahead.pop()
+        if node not in seen:
+            seen.add(node)
+            yield node
+            ahead += onward(node)
 
 
 class Graph(Generic[N]):
@@ -60,6 +74,11 @@ class Graph(Generic[N]):
     def ancestors(self, node: N) -> set[N]:
         """The other nodes from which a path leads to this one."""
         return set(_spread(self._before, node, ())) - {node}
+
+    def natural_loop(self, head: N, lasts: Iterable[N]) -> set[N]:
+        """The nodes from which the starts of back edges are reached without passing the head, and
+        the head."""
+        return {head, *search(lasts, self.predecessors, [head])}
 
     def postorder(self, first: N) -> list[N]:
         """What paths from a node reach, each behind those that a depth-first search finds from it."""

@@ -4,7 +4,6 @@ to.
 A register is given back if it has at each return the value that it had at first, also by way of
 the function's stack frame. That stores by other pointers leave the frame as it is isn't looked
 at, as for return addresses."""
-from __future__ import annotations
 
 from dataclasses import dataclass, field, replace
 from typing import Callable, Mapping

@@ -2,7 +2,6 @@
 
 FP_MARK and FP_KEEP are volatile, and stay where they are; a computation in registers may move across a mark. What isn't
 in the section isn't in its bound either. So this is a warning about the marks, and no doubt about the number."""
-from __future__ import annotations
 
 import re
 from dataclasses import dataclass

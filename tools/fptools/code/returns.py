@@ -2,14 +2,23 @@
 
 A register's value is followed through copies, and x1 through a slot of the function's own stack frame. That stores by
 other pointers leave the frame as it is isn't looked at."""
-from __future__ import annotations
 
 from dataclasses import dataclass, replace
-from typing import Callable, Collection, Mapping
+from typing import Callable, Collection, Iterable, Mapping
 
 from fptools.code.section import Section
-from fptools.code.values import State, Value, after, joined, unknown
-from fptools.isa.words import OPCODE_LOAD, OPCODE_STORE, RETURN, RETURN_ADDRESS, Flow, Word
+from fptools.code.values import State, Value, after, clobbered_by, joined, unknown
+from fptools.limits import LARGE
+from fptools.isa.words import (
+    EBREAK,
+    ECALL,
+    OPCODE_LOAD,
+    OPCODE_STORE,
+    RETURN,
+    RETURN_ADDRESS,
+    Flow,
+    Word,
+)
 
 STACK_POINTER = 2
 LOAD_WORD = STORE_WORD = 2
@@ -50,6 +59,47 @@ def wrong_return(
     return None
 
 
+def lost_return(
+    words: Mapping[int, int], reached: Iterable[Word], entry: int | None = None
+) -> Word | None:
+    """The first `ret` that may go elsewhere than behind its call: of a function that reached words call by x1, or of the
+    code at a thread's entry, which nothing calls."""
+    own = {} if entry is None else _from(words, entry).reached
+    wrong = next((it for _, it in sorted(own.items()) if it.bits == RETURN), None)
+    called = {it.target for it in reached if it.comes_back and it.target is not None}
+    known: dict[int, frozenset[int]] = {}
+
+    def clobbered(function: int) -> frozenset[int]:
+        if function not in known:
+            known[function] = clobbered_by(words, function)
+        return known[function]
+
+    parts = (_from(words, start) for start in sorted(called))
+    return wrong or next(filter(None, (wrong_return(it, clobbered, words) for it in parts)), None)
+
+
+def _from(words: Mapping[int, int], start: int) -> Section:
+    """All that a word leads to, wherever it is, without going into calls, which come back."""
+    found = Section(start, LARGE, is_function=True)
+    ahead = [start]
+    found.graph.add_node(start)
+    while ahead:
+        pc = ahead.pop()
+        if pc in found.reached:
+            continue
+        word = found.reached[pc] = Word(pc, words.get(pc, 0))
+        onward = [] if word.flow is Flow.JUMP else [word.next]
+        if word.flow is Flow.INDIRECT and not word.rd or word.flow is Flow.TRAP:
+            onward = [word.next] if word.bits in (ECALL, EBREAK) else []
+        if word.flow in (Flow.JUMP, Flow.BRANCH) and word.target is not None:
+            onward.append(word.target)
+        for to in onward:
+            if to < LARGE:
+                found.graph.add_edge(pc, to)
+                ahead.append(to)
+    return found
+
+
 def _is_as_first(frame: Frame, first: State) -> bool:
     return all(frame.registers[it] == first[it] for it in (RETURN_ADDRESS, STACK_POINTER))
 
@@ -71,7 +121,7 @@ def _after(
     base = registers[word.rs1]
     is_in_frame = base.origin == stack
     if word.opcode == OPCODE_STORE and is_in_frame:
-        at = base.offset + _store_offset(word)
+        at = base.offset + word.store_offset
         kept = {slot for slot in frame.kept if not slot - 4 < at < slot + 4}
         if word.funct3 == STORE_WORD and registers[word.rs2] == first[RETURN_ADDRESS]:
             kept.add(at)
@@ -83,8 +133,3 @@ def _after(
                 frame, registers=(*registers[: word.rd], value, *registers[word.rd + 1 :])
             )
     return replace(frame, registers=after(word, registers))
-
-
-def _store_offset(word: Word) -> int:
-    """The number of a store: of its upper bits and of those where others have rd."""
-    return (word.field(25, 7) << 5 | word.rd) - (word.field(31, 1) << 12)

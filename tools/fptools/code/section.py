@@ -1,12 +1,11 @@
 """A section or a function as `bound` and `calls` go through it: the words it reaches, its loops, and where it is left."""
-from __future__ import annotations
 
 from collections import defaultdict
 from dataclasses import dataclass, field, replace
 from enum import Enum
 from typing import Collection, Mapping, Protocol
 
-from fptools.code.digraph import Dominators, Graph
+from fptools.code.digraph import Dominators, Graph, search
 from fptools.isa.words import RETURN, Flow, Word
 
 
@@ -108,15 +107,10 @@ def walk(
     word; a `ret` is what leaves a function."""
     section = Section(start, end, is_function)
     section.graph.add_node(start)
-    ahead = [start]
-    while ahead:
-        pc = ahead.pop()
-        if pc in section.reached:
-            continue
+    for pc in search([start], section.graph.__getitem__):
         word = section.reached[pc] = Word(pc, words.get(pc, 0))
         for to in _steps(section, word, routines):
             section.graph.add_edge(pc, to)
-            ahead.append(to)
     section.loops = _loops(section)
     section.ways_out.sort(key=lambda way: (way.word.pc, way.to or 0))
     return section
@@ -134,12 +128,8 @@ def walk_all(
     apart = {it.start: it for it in functions if it.end <= start or end <= it.start}
     first = walk(words, start, end, apart, is_function)
     called: dict[int, Section] = {}
-    ahead = list(first.callees)
-    while ahead:
-        head = ahead.pop()
-        if head not in called:
-            called[head] = walk(words, head, apart[head].end, apart, is_function=True)
-            ahead += called[head].callees
+    for head in search(first.callees, lambda it: called[it].callees):
+        called[head] = walk(words, head, apart[head].end, apart, is_function=True)
     return [first, *(called[head] for head in sorted(called))]
 
 
@@ -158,7 +148,7 @@ def _loops(section: Section) -> list[Loop]:
     loops = []
     for head in sorted(backs | natural):
         every = backs[head] | natural[head]
-        body = _body(graph, head, natural[head])
+        body = graph.natural_loop(head, natural[head])
         exits = {word for word in body if word in leaves or not set(graph[word]) <= body}
         loops.append(
             Loop(
@@ -170,17 +160,6 @@ def _loops(section: Section) -> list[Loop]:
             )
         )
     return _with_inner(loops)
-
-
-def _body(graph: Graph[int], head: int, backs: Collection[int]) -> set[int]:
-    """The words from which a back edge is reached without passing the head, and the head."""
-    body, ahead = {head}, list(backs)
-    while ahead:
-        word = ahead.pop()
-        if word not in body:
-            body.add(word)
-            ahead += graph.predecessors(word)
-    return body
 
 
 def _with_inner(loops: list[Loop]) -> list[Loop]:

@@ -1,10 +1,13 @@
 """The code that a thread can reach from its entry, and the ways on after its traps."""
 from __future__ import annotations
 
+from collections import defaultdict
 from dataclasses import dataclass, field
 from functools import cached_property
-from typing import Collection, Iterator, Mapping
+from typing import Callable, Collection, Iterator, Mapping
 
+from fptools.code.digraph import search
+from fptools.code.returns import lost_return
 from fptools.code.section import Section
 from fptools.files.setup import Setup
 from fptools.limits import LARGE
@@ -16,6 +19,7 @@ from fptools.isa.words import (
     OPCODE_AUIPC,
     OPCODE_IMMEDIATE,
     OPCODE_JALR,
+    OPCODE_LOAD,
     OPCODE_LUI,
     OPCODES_WITHOUT_RESULT,
     RETURN,
@@ -71,8 +75,13 @@ class Code:
         return self._value_at(pc, register, self._led_to)
 
     def _value_at(self, pc: int, register: int, led_to: Collection[int]) -> int | None:
+        found = self._source_of(pc, register, led_to)
+        return None if found is None else found[0]
+
+    def _source_of(self, pc: int, register: int, led_to: Collection[int]) -> tuple[int, int] | None:
+        """The number of a register by straight code, and the address of the first word that gives it."""
         if register == 0:
-            return 0
+            return 0, pc
         added = 0
         for step in range(1, MOST_BEFORE):
             if pc - 4 * (step - 1) in led_to and step > 1:
@@ -84,14 +93,52 @@ class Code:
                 continue
             if word.opcode in (OPCODE_LUI, OPCODE_AUIPC):
                 base = word.pc if word.opcode == OPCODE_AUIPC else 0
-                return (base + (word.field(12, 20) << 12) + added) % 2**32
+                return (base + (word.field(12, 20) << 12) + added) % 2**32, word.pc
             if word.opcode != OPCODE_IMMEDIATE or word.funct3 != 0:
                 return None
             added += word.immediate
             register = word.rs1
             if register == 0:
-                return added % 2**32
+                return added % 2**32, word.pc
         return None
+
+    def may_be_entered_between(self, word: Word) -> bool:
+        """Whether a word before it gives the register of a write of mtvec its number, so that a jump may lead between."""
+        found = self._source_of(word.pc, word.rs1, self._led_to)
+        return word.funct3 == CSRRW and found is not None and found[1] < word.pc
+
+    def entered_between(self, word: Word) -> int | None:
+        """An address between the words that give the register of a word its number, which code or data have as a
+        number: a jump by a register may lead there, with another number."""
+        found = self._source_of(word.pc, word.rs1, self._led_to)
+        if found is None or word.funct3 == CSRRWI:
+            return None
+        return next((at for at in range(found[1] + 4, word.pc + 4, 4) if at in self._taken), None)
+
+    def is_computed(self, jump: Word) -> bool:
+        """Whether the straight code before a jump computes the register by which it goes, or the jump adds to it."""
+        register = jump.rs1
+        for step in range(1, MOST_BEFORE):
+            word = self.word(jump.pc - 4 * step)
+            if word.flow is not Flow.NEXT or word.next in self._led_to:
+                break
+            if word.rd != register or word.opcode in OPCODES_WITHOUT_RESULT:
+                continue
+            if word.opcode != OPCODE_IMMEDIATE or word.funct3 != 0 or word.immediate != 0:
+                return word.opcode != OPCODE_LOAD
+            register = word.rs1
+        return jump.opcode == OPCODE_JALR and jump.immediate != 0
+
+    @cached_property
+    def _taken(self) -> set[int]:
+        """The numbers that jumps by a register may come from: words of the image, and what code computes of LUI and AUIPC."""
+        found = {bits & ~1 for bits in self.words.values()}
+        for word in self.placed:
+            if word.is_code and word.opcode in (OPCODE_IMMEDIATE, OPCODE_JALR):
+                value = self.value_at(word.pc, word.rs1) if word.rs1 else None
+                if value is not None:
+                    found.add((value + word.immediate) % 2**32 & ~1)
+        return found
 
     def skips_a_word(self, word: Word) -> bool:
         """Whether a write of mepc makes it the address behind the one that it was, or leaves it, by the code before."""
@@ -141,27 +188,25 @@ def reach(
     code: Code, starts: Collection[int], stops: Collection[int] = (), into_calls: bool = True
 ) -> Reach:
     """What is reached from some addresses without going on from `stops`, into called functions or past them alone."""
-    found = Reach()
-    ahead = list(starts)
-    while ahead:
-        pc = ahead.pop()
-        if pc in found.words or pc in stops or pc >= LARGE:
+    found, onward = Reach(), defaultdict[int, list[int]](list)
+    for pc in search(starts, onward.__getitem__, stops):
+        if pc >= LARGE:
             continue
         word = found.words[pc] = code.word(pc)
         target = word.target if word.flow is not Flow.INDIRECT else code.jump_target(word)
         if word.flow is Flow.INDIRECT and target is None and word.bits not in (RETURN, MRET):
             found.pointers.append(word)
-        is_call = word.flow is Flow.CALL or word.flow is Flow.INDIRECT and word.rd != 0
         # A trap handler may go on behind an ECALL or EBREAK.
-        if (
-            is_call
-            or word.flow in (Flow.NEXT, Flow.BRANCH, Flow.WAIT)
-            or word.bits in (ECALL, EBREAK)
-        ):
-            ahead.append(word.next)
-        if target is not None and (into_calls or not is_call) and word.bits != RETURN:
-            ahead.append(target)
+        if word.goes_on or word.bits in (ECALL, EBREAK):
+            onward[pc] = [word.next]
+        if target is not None and (into_calls or not word.is_call) and word.bits != RETURN:
+            onward[pc].append(target)
     return found
+
+
+def anywhere(_: int) -> bool:
+    """That a thread may fetch each word."""
+    return True
 
 
 @dataclass
@@ -170,6 +215,7 @@ class ThreadCode:
 
     code: Code
     entry: int
+    may_fetch: Callable[[int], bool] = anywhere
 
     @cached_property
     def without_traps(self) -> Reach:
@@ -205,25 +251,34 @@ class ThreadCode:
 
     @cached_property
     def sets_mtvec(self) -> list[Word]:
-        return [word for word in self.whole.words.values() if word.writes_mtvec]
+        """The words that write mtvec: of the image, where a jump may lead anywhere."""
+        words = self.may_issue if self.jumps_anywhere else self.whole.words.values()
+        return [word for word in words if word.writes_mtvec]
 
     @cached_property
     def jumps_anywhere(self) -> bool:
-        """Whether it may jump to an address that isn't known: by a register, by MRET outside of a trap handler, or by a
-        handler that goes on elsewhere than where the trap was or at the word behind it."""
+        """Whether it may jump to an address that isn't known: by a register, by a `ret` that may not go back to its call,
+        by MRET outside of a trap handler, or by a handler that goes on elsewhere than where the trap was or at the word
+        behind it."""
         return self._jumps_from(self.whole)
 
     def _jumps_from(self, found: Reach) -> bool:
         if found.pointers or any(word.bits == MRET for word in self.without_traps.words.values()):
             return True
-        return any(
+        if any(
             word.writes_mepc and not self.code.skips_a_word(word) for word in found.words.values()
-        )
+        ):
+            return True
+        return lost_return(self.code.words, found.words.values(), self.entry) is not None
 
     @property
     def may_issue(self) -> list[Word]:
-        """What it may issue, by address: each word of the image, where a jump may lead anywhere."""
-        return self.code.placed if self.jumps_anywhere else _by_address(self.whole)
+        """What it may issue, by address: each word of the image that it may fetch, where a jump may lead anywhere."""
+        return self._fetched if self.jumps_anywhere else _by_address(self.whole)
+
+    @cached_property
+    def _fetched(self) -> list[Word]:
+        return [word for word in self.code.placed if self.may_fetch(word.pc)]
 
     @cached_property
     def configuration_write(self) -> Word | None:
@@ -232,7 +287,7 @@ class ThreadCode:
         found = self._with_handlers({self.entry, 0})
         sets = (word for word in found.words.values() if word.writes_mtvec)
         is_anywhere = self._jumps_from(found) or any(self._handler(word) is None for word in sets)
-        words = self.code.placed if is_anywhere else _by_address(found)
+        words = self._fetched if is_anywhere else _by_address(found)
         return next((it for it in words if it.writes_configuration), None)
 
     @property
@@ -259,7 +314,7 @@ class ThreadCode:
             own = reach(self.code, [handler], [begin], into_calls=False)
             called = reach(self.code, [handler], [begin])
             is_meant = handler != 0 or bool(self.sets_mtvec) or self.expiry is not None
-            yield from _ways_back(handler, own, called, is_meant)
+            yield from self._ways_back(handler, own, called, is_meant)
             for word in called.words.values():
                 if section.holds(word.pc) or word.pc == section.end:
                     yield WayBack(word, f"the trap handler at {handler:#x} leads here")
@@ -270,6 +325,42 @@ class ThreadCode:
                 yield WayBack(
                     word, "sets mtvec to an address that isn't known here, so a trap may come back"
                 )
+            elif self.jumps_anywhere and word.funct3 == CSRRW:
+                yield from self._unsure_handler(word)
+
+    @cached_property
+    def trusted_handlers(self) -> list[Word]:
+        """The words that set mtvec whose number rests on the words right before them, where a jump by a register may lead
+        between: nothing in the image shows that one does, and nothing shows that none does."""
+        if not self.jumps_anywhere:
+            return []
+        return [it for it in self.sets_mtvec if self.code.may_be_entered_between(it)]
+
+    def _unsure_handler(self, word: Word) -> Iterator[WayBack]:
+        """Why a write of mtvec may set another address than the words before it give."""
+        between = self.code.entered_between(word)
+        if self._stray is not None:
+            how = f"where this leads to isn't known: if to {word.pc:#x}, another address is set as mtvec, and a trap may come back"
+            yield WayBack(self._stray, how)
+        elif between is not None:
+            how = f"a jump by a register may lead to {between:#x}: then this sets mtvec to another address, and a trap may come back"
+            yield WayBack(word, how)
+
+    @cached_property
+    def _stray(self) -> Word | None:
+        """A jump that may lead to any word: a `ret` that may not go back to its call, or a jump to a computed address."""
+        found = self.whole
+        lost = lost_return(self.code.words, found.words.values(), self.entry)
+        return lost or next((it for it in found.pointers if self.code.is_computed(it)), None)
+
+    def _ways_back(
+        self, handler: int, own: Reach, called: Reach, is_meant: bool
+    ) -> Iterator[WayBack]:
+        yield from _ways_back(handler, own, called, is_meant)
+        lost = lost_return(self.code.words, called.words.values())
+        if lost is not None:
+            how = f"the trap handler at {handler:#x} calls this, and it isn't certain that it goes back to the call"
+            yield WayBack(lost, how, is_meant)
 
     def comes_back_to(self, words: Collection[int]) -> Iterator[WayBack]:
         """Why a trap may be followed by one of some words, by their addresses, wherever it is taken."""
@@ -277,7 +368,7 @@ class ThreadCode:
         for handler in sorted({it for pc in words for it in self.handlers(pc)}):
             own, called = reach(self.code, [handler], into_calls=False), reach(self.code, [handler])
             is_meant = handler != 0 or bool(self.sets_mtvec) or self.expiry is not None
-            yield from _ways_back(handler, own, called, is_meant)
+            yield from self._ways_back(handler, own, called, is_meant)
             entered = sorted(called.words.keys() & set(words))
             if entered:
                 # Where nobody sets mtvec, a trap of a thread that begins at 0 is a fault, by which it begins again.

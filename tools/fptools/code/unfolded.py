@@ -3,7 +3,6 @@ place.
 
 A place is a word together with the calls by which it is reached. Calls of functions without a
 wait are passed over: they come back to the next word. Trap handlers are left out."""
-from __future__ import annotations
 
 from collections import defaultdict
 from dataclasses import dataclass, field
@@ -12,7 +11,7 @@ from typing import NamedTuple
 
 from fptools.files.elf import Function, Program
 from fptools.code.returns import wrong_return
-from fptools.code.digraph import Dominators, Graph
+from fptools.code.digraph import Dominators, Graph, search
 from fptools.code.section import Exit, Section, walk
 from fptools.limits import LARGE
 from fptools.code.thread import Code, reach
@@ -88,15 +87,10 @@ class Unfolded:
     _checked: set[int] = field(default_factory=set)
 
     def __post_init__(self) -> None:
-        ahead = [self.first]
-        while ahead:
-            place = ahead.pop()
-            if place in self.steps:
-                continue
+        for place in search([self.first], lambda it: self.steps[it].ends):
             if len(self.steps) >= MOST_PLACES:
                 raise NotUnfolded(place.pc, "the calls that lead to a wait are too many to look at")
-            step = self.steps[place] = self._step(place)
-            ahead += step.ends
+            self.steps[place] = self._step(place)
 
     @property
     def first(self) -> Place:
@@ -203,17 +197,11 @@ class Unfolded:
         for place, to in self.graph.edges:
             if dominators.has(to, place):
                 backs[to].append(place)
-        found = (Ring(head, frozenset(self._body(head, lasts))) for head, lasts in backs.items())
+        found = (
+            Ring(head, frozenset(self.graph.natural_loop(head, lasts)))
+            for head, lasts in backs.items()
+        )
         return sorted(found, key=lambda it: (-len(it.body), it.head.key))
-
-    def _body(self, head: Place, lasts: list[Place]) -> set[Place]:
-        body, ahead = {head}, list(lasts)
-        while ahead:
-            place = ahead.pop()
-            if place not in body:
-                body.add(place)
-                ahead += self.graph.predecessors(place)
-        return body
 
     @cached_property
     def tangled(self) -> list[Place]:

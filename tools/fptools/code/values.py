@@ -1,9 +1,9 @@
 """The values of registers before each word of a function, as far as numbers and distances are known."""
-from __future__ import annotations
 
 from dataclasses import dataclass
 from typing import Collection, Iterator, Mapping
 
+from fptools.code.digraph import search
 from fptools.limits import DATA_START, LARGE
 from fptools.isa.words import (
     OPCODE_AUIPC,
@@ -129,19 +129,11 @@ def joined(pc: int, one: State, other: State) -> State:
 def clobbered_by(words: Mapping[int, int], function: int) -> frozenset[int]:
     """The registers that a called function, and what it calls, may change: all, where it jumps by a register."""
     found: set[int] = set()
-    seen: set[int] = set()
-    ahead = [function]
-    while ahead:
-        pc = ahead.pop()
-        if pc in seen:
-            continue
-        seen.add(pc)
+    for pc in search([function], lambda pc: Word(pc, words.get(pc, 0)).onward):
         word = Word(pc, words.get(pc, 0))
         found.add(written_by(word))
         if word.flow is Flow.INDIRECT and word.bits != RETURN or pc >= LARGE:
             return frozenset(range(32))
-        ahead += [word.next] if word.flow not in (Flow.JUMP, Flow.INDIRECT, Flow.TRAP) else []
-        ahead += [word.target] if word.target is not None else []
     return frozenset(found)
 
 
@@ -213,21 +205,13 @@ class Values:
 
     def _next(self, word: Word) -> list[int]:
         """Where a word goes on in its function; a call comes back."""
-        goes_on = word.flow in (Flow.NEXT, Flow.BRANCH, Flow.WAIT, Flow.CALL)
-        goes_on |= word.flow is Flow.INDIRECT and word.rd != 0
-        onward = [word.next] if goes_on else []
+        onward = [word.next] if word.goes_on else []
         target = word.target if word.flow in (Flow.BRANCH, Flow.JUMP) else None
         return onward if target is None else [*onward, target]
 
     def _inside(self, start: int) -> set[int]:
-        inside: set[int] = set()
-        ahead = [start]
-        while ahead:
-            pc = ahead.pop()
-            if pc not in inside and pc < LARGE:
-                inside.add(pc)
-                ahead += self._next(self._word(pc))
-        return inside
+        found = search([start], lambda pc: self._next(self._word(pc)) if pc < LARGE else ())
+        return {pc for pc in found if pc < LARGE}
 
     def _is_entered(self, pc: int, inside: Collection[int]) -> bool:
         """Whether other code reaches a word, also by a call."""

@@ -1,5 +1,4 @@
 """What the commands share: their parsers of arguments, and how a call ends."""
-from __future__ import annotations
 
 import argparse
 import os
@@ -36,7 +35,9 @@ class Parser(argparse.ArgumentParser):
 
 
 def new_parser(description: str | None, name: str | None = None) -> Parser:
-    """A parser whose help has the description as it is written."""
+    """A parser whose help has the description as it is written. A call without standard output ends here."""
+    if sys.stdout is None:
+        sys.exit(failed(name or Path(sys.argv[0]).name, "standard output is closed", CANNOT))
     form = argparse.RawDescriptionHelpFormatter
     return Parser(prog=name, description=description, formatter_class=form)
 

@@ -6,17 +6,18 @@ An address is a number, NAME or NAME+NUMBER, with names of an executable, or of 
 `flexpret bound`, `calls` with --elf or --map call this for --from and --to. With --routines FILE, the
 functions of the executable that the section from the first to the second address reaches by calls are
 written there, as the command `calls` reads them. With --setup the names count only if the setup's image
-was made of the executable. A source that is newer than its map is reported. Exit status: 0; 2 where an
-address isn't known, the image is of another executable, or a file can't be read."""
-from __future__ import annotations
+was made of the executable, or of the source of the map. Where the source of a map has changed or isn't
+there, this is reported. Exit status: 0; 2 where an address isn't known, the image is of another
+executable or source, or a file can't be read."""
 
+import os
 import sys
 from pathlib import Path
 
 from fptools.commands.common import failed, new_parser
 from fptools.files.elf import Program, ProgramError
 from fptools.files.image import ImageError, read_image
-from fptools.files.labels import named_by
+from fptools.files.labels import Mapped, compare_map, named_by
 from fptools.files.setup import read_setup
 from fptools.files.written import write_whole
 
@@ -32,24 +33,35 @@ def write_routines(path: Path, program: Program, start: int, end: int) -> None:
     write_whole(path, text.encode("ascii"))
 
 
-def look_at_image(program: Program, setup: Path) -> None:
-    """The image of a setup is made of the executable. If it can't be read, the program reports it."""
+def image_of(setup: Path) -> tuple[dict[int, int], Path] | None:
+    """The image of a setup with its name; None where it can't be read, which the program reports."""
     try:
-        image = read_image(read_setup(setup).image)
+        path = read_setup(setup).image
+        return read_image(path), path
     except (OSError, ValueError, LookupError, TypeError, ImageError):
-        return
-    other = program.other_word(image)
+        return None
+
+
+def look_at_image(program: Program, setup: Path) -> None:
+    """The image of a setup is made of the executable."""
+    found = image_of(setup)
+    other = program.other_word(found[0]) if found else ""
     if other:
         raise ProgramError(
             f"the setup's image isn't made of {program.path}: other words at {other}"
         )
 
 
-def look_at_map(program: Program) -> None:
-    """Says that the source of a map is newer."""
-    source = next((line.file for line in program.all_lines), None)
-    path = program.path
-    if path and source and source.is_file() and source.stat().st_mtime_ns > path.stat().st_mtime_ns:
+def look_at_map(program: Mapped, setup: Path | None) -> None:
+    """The map is of the source of a setup's image. Reports it where they can't be compared; without a setup, where the
+    source is newer than the map. `flexpret --quiet` hears no report."""
+    source, path = program.source, program.path
+    image = image_of(setup) if setup else None
+    if image and os.environ.get("FLEXPRET_QUIET"):
+        program.look_at(*image)
+    elif image:
+        compare_map(program, *image, NAME)
+    elif source.is_file() and source.stat().st_mtime_ns > path.stat().st_mtime_ns:
         print(
             f"{NAME}: {source.name} is newer than {path.name}: its labels may be elsewhere",
             file=sys.stderr,
@@ -70,8 +82,8 @@ def main() -> int:
         program = named_by(asked.elf, asked.map)
         if asked.elf and asked.setup:
             look_at_image(program, asked.setup)
-        if asked.map:
-            look_at_map(program)
+        if isinstance(program, Mapped):
+            look_at_map(program, asked.setup)
         addresses = [program.address(text) for text in asked.address]
         if asked.routines:
             if len(addresses) != 2 or not asked.elf:

@@ -9,11 +9,8 @@ line, and the labels. fp_visits, fp_disasm, fp_addresses and fp_refusal read it.
 `flexpret asm SOURCE -o IMAGE --listing FILE --map FILE` calls this once the program has written the
 image. Both files are written whole or not at all. Exit status: 0; 2 where a file can't be read or
 written, the source has a fault, or the image has other words than the source."""
-from __future__ import annotations
 
-import os
 import sys
-import tempfile
 from pathlib import Path
 from typing import Iterable
 
@@ -21,6 +18,7 @@ from fptools.commands.common import failed, new_parser
 from fptools.asm.places import SourceFault
 from fptools.asm.source import listing, map_lines, read_source
 from fptools.files.image import ImageError, read_image
+from fptools.files.written import write_whole
 
 NAME = "fp_asm"
 
@@ -32,23 +30,7 @@ def write(path: Path, lines: Iterable[str]) -> None:
         sys.stdout.write(text)
         sys.stdout.flush()
         return
-    with tempfile.NamedTemporaryFile(
-        "w", encoding="utf-8", dir=path.parent, prefix=f".{path.name}.", delete=False
-    ) as new:
-        try:
-            new.write(text)
-            new.flush()
-            os.chmod(new.name, 0o666 & ~_umask())
-            os.replace(new.name, path)
-        except BaseException:
-            os.unlink(new.name)
-            raise
-
-
-def _umask() -> int:
-    mask = os.umask(0)
-    os.umask(mask)
-    return mask
+    write_whole(path, text.encode())
 
 
 def main() -> int:

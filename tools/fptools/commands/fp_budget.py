@@ -83,11 +83,11 @@ from fptools.commands.common import Parser, failed, new_parser
 from fptools.budget.files import (
     Assumption, Budget, PeriodOf, Result, Verdict, read_budgets,
 )  # fmt: skip
-from fptools.budget.budgets import Judge
+from fptools.budget.judge import Judge
 from fptools.files.elf import Program, ProgramError
 from fptools.files.image import ImageError, read_image
 from fptools.files.lint import read_valid
-from fptools.budget.judged import judged
+from fptools.budget.results import judged
 from fptools.budget.names import Names, look_at_name
 from fptools.program.calls import HELP, Flexpret, RunFailed
 from fptools.files.setup import Setup
@@ -340,6 +340,15 @@ def period_budgets(asked: argparse.Namespace, cycles: int | None) -> list[Budget
     ]
 
 
+def inputs_of(asked: argparse.Namespace) -> list[Path | None]:
+    """The files that a call reads."""
+    named = [asked.file, asked.budgets, asked.elf, asked.setup]
+    try:
+        return [*named, read_valid(asked.setup or asked.file).image]
+    except (OSError, ValueError):
+        return named
+
+
 def write(
     asked: argparse.Namespace,
     found: list[Result],
@@ -353,12 +362,13 @@ def write(
             print(f"fp_budget: {fault}", file=sys.stderr)
         if asked.junit:
             from fptools.budget.reports import junit
-            from fptools.files.written import write_whole
+            from fptools.files.written import refuse_inputs, write_whole
 
+            refuse_inputs(asked.junit, inputs_of(asked))
             write_whole(asked.junit, junit(found, (asked.setup or asked.file).name, fault, stacks))
         if asked.json:
             write_json(found, fault, threads if asked.all else None)
-        elif asked.all:
+        elif asked.all and fault is None:
             write_all(found, threads)
         else:
             write_text(found, asked.setup is not None and asked.budgets is None)
@@ -403,9 +413,12 @@ def write_all(found: list[Result], threads: Sequence[ThreadAnswer]) -> None:
 
 
 def old_comment(asked: argparse.Namespace) -> str:
-    """What to write instead of a comment that nothing reads, if a source has one."""
-    program = Program(asked.elf if asked.setup is None else asked.file)
-    return Sources(asked.src).old_comment(program.all_lines) if program.path else ""
+    """What to write instead of a comment that nothing reads, if a source has one. Where lines can't be read, none is known."""
+    try:
+        program = Program(asked.elf if asked.setup is None else asked.file)
+        return Sources(asked.src).old_comment(program.all_lines) if program.path else ""
+    except ProgramError:
+        return ""
 
 
 def write_text(found: list[Result], has_parts: bool) -> None:

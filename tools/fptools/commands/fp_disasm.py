@@ -7,7 +7,6 @@ and so is all data. Names come from an executable or from a map that fp_asm wrot
 jump is called L_ and its address. An image past 16,384 bytes of a scratchpad is shown too, but `asm`
 refuses its source. `flexpret disasm IMAGE` calls this. Exit status: 0; 2 where a file can't be read or
 is no image, or the image isn't made of the executable."""
-from __future__ import annotations
 
 import sys
 
@@ -15,7 +14,7 @@ from fptools.commands.common import failed, let_reader_go, new_parser
 from fptools.asm.source import disassembled
 from fptools.files.elf import ProgramError
 from fptools.files.image import ImageError, read_image
-from fptools.files.labels import named_by, names_at
+from fptools.files.labels import compare_map, named_by, names_at
 
 NAME = "fp_disasm"
 
@@ -31,6 +30,7 @@ def main() -> int:
         program = named_by(asked.elf, asked.map)
         if asked.elf and (other := program.other_word(words)):
             raise ProgramError(f"{asked.image} isn't made of {asked.elf}: other words at {other}")
+        compare_map(program, words, asked.image, NAME)
         for line in disassembled(words, names_at(program)):
             print(line)
         sys.stdout.flush()

@@ -24,22 +24,17 @@ writes a checksum for each promise, by which a test notices that a sentence has 
 
 Exit status, as of fp_budget: 0 where all budgets hold, 1 where one is over, 2 where one is unknown,
 or a file can't be read or written: then the folder stays as it was."""
-from __future__ import annotations
 
 import argparse
-import hashlib
-import json
 import shlex
-import shutil
 import sys
-import tempfile
 from pathlib import Path
 from subprocess import SubprocessError
 
 from fptools.commands.common import failed, new_parser
 from fptools.budget.files import Result, Verdict, read_budgets
 from fptools.budget.runs import Runs
-from fptools.budget.budgets import Judge
+from fptools.budget.judge import Judge
 from fptools.files.elf import Program, ProgramError, other_word
 
 from fptools.evidence.evidence import (
@@ -52,19 +47,15 @@ from fptools.evidence.evidence import (
     promises_of,
     read_data,
 )
-from fptools.evidence.page import html_of
+from fptools.evidence.folder import files_of, look_at_output, write_folder
 from fptools.files.image import ImageError, read_image
 from fptools.files.lint import read_valid
-from fptools.budget.judged import judged
+from fptools.budget.results import judged
 from fptools.program.calls import HELP, Flexpret, RunFailed
-from fptools.budget.reports import data_of
 from fptools.files.setup import Setup
 from fptools.files.sources import Sources
-from fptools.stack.reports import stack_fields
-from fptools.untyped import Values
 
 NAME = "fp_evidence"
-MARK = "evidence.json"
 FAULTS = (
     *(OSError, ValueError, ImageError, ProgramError, NoClause),
     *(RunFailed, SubprocessError),
@@ -94,16 +85,6 @@ def parse() -> argparse.Namespace:
             if getattr(asked, name) is None:
                 parser.error(f"{'-o FOLDER' if name == 'out' else name.upper()} is missing")
     return asked
-
-
-def look_at_output(folder: Path) -> None:
-    """Ends early where the folder can't be written, or is another one."""
-    if folder.is_dir() and any(folder.iterdir()) and not (folder / MARK).is_file():
-        raise ValueError(
-            f"{folder} is there, and isn't evidence of an earlier call: name another folder"
-        )
-    if folder.exists() and not folder.is_dir():
-        raise ValueError(f"{folder} is no folder")
 
 
 def inputs_of(asked: argparse.Namespace, setup: Setup) -> tuple[Input, ...]:
@@ -150,7 +131,7 @@ def found_for(asked: argparse.Namespace) -> Evidence:
 
 
 def command_of(asked: argparse.Namespace) -> str:
-    """The call, as it can be repeated."""
+    """The call, as it can be repeated. Its page is the same in each folder, so that the bytes of two can be compared."""
     words = [
         "tools/fp_evidence",
         str(asked.elf),
@@ -159,75 +140,9 @@ def command_of(asked: argparse.Namespace) -> str:
         "--budgets",
         str(asked.budgets),
     ]
-    words += ["--runs", str(asked.runs)] if asked.runs is not None else []
-    return shlex.join([*words, "-o", str(asked.out)])
-
-
-def as_json(evidence: Evidence) -> bytes:
-    """The answers and their origin."""
-    origin = evidence.origin
-    document: Values = {
-        "commit": origin.commit,
-        "changes": list(origin.changes),
-        "kit": origin.kit,
-        "program": {
-            "what": origin.program,
-            "sha256": origin.program_sum,
-            "proved": origin.is_proved,
-        },
-        "sources": {"number": len(origin.sources), "sha256": origin.sources_sum},
-        "inputs": {
-            it.what: {"name": it.name, "copy": it.copy, "sha256": it.sum} for it in evidence.inputs
-        },
-        "results": [data_of(it) for it in evidence.results],
-        "stacks": [stack_fields(it) for it in evidence.stacks],
-        "promises": [
-            {
-                "name": it.name.rstrip("."),
-                "clauses": [f"{one.file}:{one.line} {one.name}".strip() for one in it.clauses],
-                "definitions": len(it.definitions),
-                "lines": it.lines,
-            }
-            for it in evidence.promises
-        ],
-        "test": evidence.gate,
-    }
-    return (json.dumps(document, indent=2, ensure_ascii=False) + "\n").encode()
-
-
-def definitions_of(evidence: Evidence) -> bytes:
-    """All definitions of all promises, by their places."""
-    every = sorted(
-        {it for one in evidence.promises for it in one.definitions},
-        key=lambda it: (it.file, it.line),
-    )
-    return "\n".join(f"-- {it.file}:{it.line}\n{it.text}" for it in every).encode()
-
-
-def files_of(evidence: Evidence, title: str) -> dict[str, bytes]:
-    """The files of the folder by their names."""
-    files = {
-        "index.html": html_of(evidence, title),
-        MARK: as_json(evidence),
-        "definitions.txt": definitions_of(evidence),
-        "sources.sha256": evidence.origin.sources_text.encode(),
-        **{it.copy: it.data for it in evidence.inputs},
-    }
-    sums = [f"{hashlib.sha256(data).hexdigest()}  {name}\n" for name, data in sorted(files.items())]
-    return {**files, "SHA256SUMS": "".join(sums).encode()}
-
-
-def write_folder(folder: Path, files: dict[str, bytes]) -> None:
-    """Writes a folder whole, in place of an earlier one."""
-    folder.parent.mkdir(parents=True, exist_ok=True)
-    with tempfile.TemporaryDirectory(prefix=f".{folder.name}.", dir=folder.parent) as room:
-        new = Path(room) / "new"
-        for name, data in files.items():
-            (new / name).parent.mkdir(parents=True, exist_ok=True)
-            (new / name).write_bytes(data)
-        if folder.exists():
-            shutil.move(folder, Path(room) / "old")
-        shutil.move(new, folder)
+    for option, value in (("--runs", asked.runs), ("--src", asked.src), ("--title", asked.title)):
+        words += [option, str(value)] if value is not None else []
+    return shlex.join([*words, "-o", "FOLDER"])
 
 
 def main() -> int:

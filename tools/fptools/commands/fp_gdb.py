@@ -7,7 +7,6 @@ Threads T0 to T7 are gdb's threads 1 to 8. All that gdb shows comes from `run` a
 program; registers and memory can't be written. `monitor help` in gdb lists further commands. Exit
 status: 0 gdb has ended the session, or is gone; 2 a file is refused or can't be read, or the
 program failed."""
-from __future__ import annotations
 
 import argparse
 import signal

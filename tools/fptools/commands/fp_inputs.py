@@ -7,7 +7,6 @@ all but the first of each N cycles.
 
 Exit status: 0 the setup is written; 1 too many inputs, with what to do; 2 wrong arguments, or a
 file can't be read or written."""
-from __future__ import annotations
 
 import argparse
 import sys

@@ -23,7 +23,6 @@ error says which and why.
 Exit status: 0: all functions are laid out. 1: a function stays as it is. 2: nothing is written, since marks cross a
 loop or are there twice, a loop mark can't be read, the input isn't a compiler's assembly for RV32IM, or a file can't
 be read or written."""
-from __future__ import annotations
 
 import argparse
 import sys

@@ -2,7 +2,6 @@
 
 Each line is FILE:LINE: LEVEL: KEY: what it is. An error is refused by the program; a warning is allowed and seldom
 meant; notes are shown with --notes. Exit status: 0 without errors and warnings, 1 with them, 2 if a file can't be read."""
-from __future__ import annotations
 
 import sys
 from pathlib import Path

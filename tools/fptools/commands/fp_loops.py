@@ -11,7 +11,6 @@ Source lines, in comments and reasons, need -g.
 Exit status: 0 where each loop has its bound and the section is left at its end alone, 1 otherwise, also where a source
 isn't the one that the executable was built from; 2 where a file can't be read, an address isn't known, or the image of --setup isn't made
 of the executable."""
-from __future__ import annotations
 
 import argparse
 import sys

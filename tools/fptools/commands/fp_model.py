@@ -5,7 +5,6 @@
 
 Nothing of its answers is proved, as a line on standard error says, unless FLEXPRET_QUIET is set. It takes
 a thousand times as long as the program."""
-from __future__ import annotations
 
 import os
 import site

@@ -9,7 +9,6 @@ variable RILLUQAR in the Makefile names the folder of the tools.
 
 Exit status: 0; 2: nothing is written, since the folder exists, the name is none, or a file can't be
 written."""
-from __future__ import annotations
 
 import argparse
 import os

@@ -10,7 +10,6 @@ compares the traces.
 Exit status: 0 the run is whole; 1 the plant ended, answered no word, or gave no answer in time;
 2 wrong arguments or files, or nothing could be run; 3 --check found another trace; 130 an
 interrupt. Both processes are ended in every case."""
-from __future__ import annotations
 
 import argparse
 import hashlib
@@ -115,9 +114,10 @@ def as_run(asked: argparse.Namespace) -> PlantRun:
     named = asked.program or os.environ.get("LOOP_CLI")
     program = named or built_program()
     if not os.access(program, os.X_OK):
-        raise NotRun(
-            f"{program} isn't built: without --program and LOOP_CLI fp_plant builds its own one"
-        )
+        cure = "without --program and LOOP_CLI fp_plant builds its own one"
+        if not named and not (TOP / "crates.txt").is_file():
+            cure = "fp_plant of a checkout builds it: name it by --program or LOOP_CLI"
+        raise NotRun(f"{program} isn't built: {cure}")
     return PlantRun(
         program, asked.setup, asked.thread, asked.every, asked.cycles, asked.command, asked.timeout
     )
@@ -170,7 +170,7 @@ def run_all(asked: argparse.Namespace, files: ExitStack) -> int:
     folder = Path(files.enter_context(tempfile.TemporaryDirectory(prefix="fp_plant-")))
     others = asked.plants.read_text() if asked.plants else ""
     plants = folder / "plants.txt"
-    plants.write_text(f"{others}\n{run.thread} pipe\n")
+    plants.write_text(f"{run.thread} pipe\n{others}")
     output = files.enter_context(asked.output.open("wb")) if asked.output else sys.stdout.buffer
     trace, exchange = [output.write], []
     if asked.log:

@@ -15,7 +15,6 @@ view is built. Else it has the command of the view.
 
 Exit status: 0 the trace is written, or all threads are the same; 1 a thread differs; 2 wrong
 arguments, a record that can't be read, with its line, or a setup that the program refuses."""
-from __future__ import annotations
 
 import argparse
 import os
@@ -35,7 +34,7 @@ from fptools.core.records import RETIRES, SIGNALS, RecordError, read_record
 from fptools.files.setup import Setup
 from fptools.files.toml import TomlError
 from fptools.limits import MOST_CYCLES
-from fptools.view.rows import VIEW_BESIDE, VIEW_HELP, View, ViewFailed
+from fptools.view.rows import HEAD, VIEW_BESIDE, VIEW_HELP, View, ViewFailed
 
 NAME = "fp_record"
 DIFFERS = 1
@@ -141,7 +140,8 @@ class Shower:
         if self._view is None:
             where = f"{self._setup.path} --from {first} --to {end}"
             return [f"the cycles around it: ./flexpret-view turns {where}"]
-        return View.named(self._view, self._setup.path).ask(first, end).splitlines()
+        rows = View.named(self._view, self._setup.path).rows(first, end)
+        return [HEAD, *(row.line for row in rows)]
 
 
 def place(line: str) -> tuple[int, int]:

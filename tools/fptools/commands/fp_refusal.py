@@ -8,7 +8,6 @@ and source lines by an executable, or by a map that fp_asm wrote. The script `fl
 the program ends with status 3 to 6 or 10, and shows its output on standard error. Only --elf needs a
 package, pyelftools. Exit status: 0; 2 if the line is no refusal, a file that it refers to can't be read,
 or the package is missing."""
-from __future__ import annotations
 
 import sys
 

@@ -23,7 +23,6 @@ python3-plotly has 8.7 MB, and Vega comes without Vega-Lite, which Altair needs.
 Exit status, as of fp_budget: 0 where all budgets hold, 1 where one is over, 2 where one is unknown.
 Status 2 with a line on standard error: something can't be read, asked or written. The file stays
 as it was."""
-from __future__ import annotations
 
 import argparse
 import os
@@ -45,7 +44,7 @@ from fptools.program.calls import HELP, Flexpret, RunFailed
 from fptools.files.sources import Sources
 from fptools.files.trace_blocks import BrokenTrace
 from fptools.budget.whole import budgets_beside
-from fptools.files.written import write_whole
+from fptools.files.written import refuse_inputs, write_whole
 
 CYCLES = 1_000_000
 FAULTS = (
@@ -121,6 +120,7 @@ def found_for(asked: argparse.Namespace) -> Findings:
         files.append(("budgets", asked.budgets))
     if asked.elf:
         files.append(("executable", asked.elf))
+    refuse_inputs(asked.out, [file for _, file in files])
     question = Question(
         Flexpret.named(asked.flexpret),
         setup,

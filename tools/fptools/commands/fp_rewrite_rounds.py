@@ -8,7 +8,6 @@ the round that leaves. Macros aren't read.
 
 Exit status: 0; 1: a comment's loop isn't found, and its file stays as it is; 2: a file can't be read or
 written."""
-from __future__ import annotations
 
 import argparse
 import sys

@@ -27,7 +27,6 @@ stores to. What else is assumed comes on standard error.
 
 Exit status: 0 where all fit, 1 where one doesn't, 2 where one is unknown or a file can't be
 read."""
-from __future__ import annotations
 
 import argparse
 import sys

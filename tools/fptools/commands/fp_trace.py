@@ -7,7 +7,6 @@ had passed the effect says how late it was; of a DU that needs --setup. Instruct
 objdump for RISC-V, if one is installed, else as words. --json writes a line for each event, --csv a row.
 Exit status: 0; 2 where a file can't be read, an address isn't known, or the trace or the setup's image is
 of another program than the executable; 3 where a line is no event: those before it are shown."""
-from __future__ import annotations
 
 import argparse
 import sys
@@ -19,7 +18,7 @@ from fptools.files.trace_blocks import Block, BrokenTrace, Live, Progress, Sourc
 from fptools.isa.disassembly import Disassembler, find_tool
 from fptools.files.elf import Program, ProgramError, other_word
 from fptools.files.image import ImageError, read_image
-from fptools.files.labels import named_by
+from fptools.files.labels import compare_map, named_by
 from fptools.files.lint import read_valid
 from fptools.files.setup import Setup
 from fptools.view.events import CSV, JSON, TEXT, Columns, Filter, Form, Wanted
@@ -126,8 +125,10 @@ class Shower:
         self._period: int = self._setup.period if self._setup else asked.period or DEFAULT_PERIOD
         self._turns = turns(self._setup, asked.thread)
         program = named_by(asked.elf, asked.map)
-        if self._setup and asked.elf and self._setup.image.exists():
-            if other := other_word(program, read_image(self._setup.image)):
+        if self._setup and (asked.elf or asked.map) and self._setup.image.exists():
+            image = read_image(self._setup.image)
+            compare_map(program, image, self._setup.image, NAME)
+            if asked.elf and (other := other_word(program, image)):
                 raise ProgramError(other)
         self._comparison = Comparison(program, asked.elf is not None)
         self._disassembler = Disassembler(asked.objdump)

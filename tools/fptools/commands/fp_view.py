@@ -15,10 +15,8 @@ What each cycle does comes of the proved view. What is shown of it here isn't pr
 Exit status: 0; 1 where the event doesn't come within --within cycles; 2 where an argument is wrong,
 or ELF isn't of the image; 8 where FILE can't be written; else that of the view: 3 or 4 for a
 refusal, whose line is on standard output, 7 or 9. FILE is written whole or not at all."""
-from __future__ import annotations
 
 import argparse
-import os
 import sys
 from dataclasses import dataclass
 from subprocess import SubprocessError
@@ -27,25 +25,24 @@ from typing import Callable, NoReturn
 from fptools.commands.common import Parser, failed
 from fptools.program.status import CANNOT
 from fptools.launch.files import lines
-from fptools.launch.view import MOST_CYCLE
+from fptools.launch.view import FORMS, MOST_CYCLE
+from fptools.limits import MOST_PICTURE
 from fptools.files.elf import Program, ProgramError, other_word
 from fptools.files.image import ImageError, read_image
-from fptools.files.labels import named_by
+from fptools.files.labels import compare_map, named_by
 from fptools.program.calls import HELP, Flexpret, RunFailed
 from fptools.files.setup import read_setup
 from fptools.files.sources import Sources
 from fptools.files.trace_blocks import BrokenTrace
-from fptools.view.dump import Dump
 from fptools.view.around import BadEvent, NeverCame, Seeker, wish_of
+from fptools.view.drawer import STANDARD_OUTPUT, Look, drawn, put
 from fptools.view.marks import BadMark, Mark, mark_of
 from fptools.view.names import Names
-from fptools.view.picture import MOST_COLUMNS, MOST_CYCLES, MOST_ZOOM, Picture, Shape
+from fptools.view.picture import MOST_COLUMNS, MOST_ZOOM, Shape
 from fptools.view.rows import BEFORE, MOST_WINDOW, THREADS, VIEW_HELP, View, ViewFailed
-from fptools.view.text import text_of
-from fptools.files.written import write_whole
 
 NAME = "fp_view"
-NEVER, UNREADABLE, NOT_WRITTEN = 1, 7, 8
+NEVER, UNREADABLE = 1, 7
 BEFORE_EVENT, AFTER_EVENT, WITHIN = 20, 60, 1_000_000
 FAULTS = (
     *(OSError, ValueError, ImageError, ProgramError, BadEvent, BadMark),
@@ -95,7 +92,7 @@ def add_forms(parser: Parser) -> None:
     """Adds the options for the form of a view, and for the programs that are called."""
     add = parser.add_argument
     forms = parser.add_mutually_exclusive_group()
-    for form, what in (("svg", "a picture"), ("vcd", "a dump, for GTKWave"), ("konata", "a log")):
+    for form, what in zip(FORMS, ("a log", "a dump, for GTKWave", "a picture")):
         forms.add_argument(f"--{form}", metavar="FILE", help=f"{what}; - is standard output")
     add(
         "--zoom",
@@ -157,9 +154,9 @@ def look_at_size(asked: argparse.Namespace, window: Window) -> None:
     if cycles < 1:
         raise BadWindow(f"{where}: --before and --after leave no cycle")
     if asked.svg is not None and (
-        cycles > MOST_CYCLES or cycles * (asked.zoom or 1) > MOST_COLUMNS
+        cycles > MOST_PICTURE or cycles * (asked.zoom or 1) > MOST_COLUMNS
     ):
-        text = f"a picture has at most {MOST_CYCLES} cycles, and {MOST_COLUMNS} by the zoom"
+        text = f"a picture has at most {MOST_PICTURE} cycles, and {MOST_COLUMNS} by the zoom"
         raise BadWindow(f"{where}: {text}")
     if cycles > MOST_WINDOW:
         raise BadWindow(f"{where}: a window has at most {MOST_WINDOW} cycles")
@@ -180,44 +177,20 @@ def window_of(asked: argparse.Namespace, program: Program) -> Window:
 
 def shown(
     asked: argparse.Namespace, view: View, window: Window, marks: list[Mark], names: Names
-) -> str:
-    """The window in the selected form."""
-    if asked.konata is not None:
-        return view.ask(window.first, window.end, "konata")
-    threads = asked.threads or list(THREADS)
+) -> list[str]:
+    """The lines of the window in the selected form."""
+    shape = Shape(asked.threads or THREADS, asked.zoom or 1, asked.stages)
     rows = view.rows(max(0, window.first - BEFORE), window.end)
-    own = [row for row in rows if row.cycle >= window.first]
-    if asked.svg is not None:
-        shape = Shape(threads, asked.zoom or 1, asked.stages)
-        return Picture(view.states(rows), window.first, shape, marks, names).text()
-    if asked.vcd is not None:
-        dump = view.ask(window.first, window.end, "vcd")
-        return Dump(rows, window.first, threads, marks, names).text(dump)
-    return text_of(own, threads, marks, names)
+    look = Look(shape, marks, names, has_additions=True)
+    return list(drawn(form_of(asked), rows, window.first, look))
 
 
-def put(name: str | None, text: str) -> int:
-    """Writes a view to a file, or to standard output."""
-    data = text.encode()
-    try:
-        if name is None or name == "-":
-            sys.stdout.buffer.write(data)
-            sys.stdout.buffer.flush()
-        else:
-            write_whole(name, data)
-    except BrokenPipeError:
-        os.dup2(os.open(os.devnull, os.O_WRONLY), 1)
-    except OSError as fault:
-        print(
-            f"{NAME}: {name or 'standard output'} can't be written: {fault.strerror}",
-            file=sys.stderr,
-        )
-        return NOT_WRITTEN
-    return 0
+def form_of(asked: argparse.Namespace) -> str:
+    return next((form for form in FORMS if getattr(asked, form) is not None), "text")
 
 
-def made(asked: argparse.Namespace) -> str:
-    """The whole view. What is wrong with the arguments is found before a long run."""
+def made(asked: argparse.Namespace) -> list[str]:
+    """The lines of the view. What is wrong with the arguments is found before a long run."""
     program = named_by(asked.elf, asked.map)
     marks = [mark_of(text, program) for text in asked.mark]
     if asked.around is not None:
@@ -225,9 +198,14 @@ def made(asked: argparse.Namespace) -> str:
     else:
         look_at_size(asked, window_of(asked, program))
     view = View.named(asked.view, asked.setup)
-    view.look()
-    if asked.elf and (other := other_word(program, read_image(read_setup(asked.setup).image))):
-        raise ProgramError(other)
+    if asked.around is not None or asked.elf or asked.map:
+        view.look()
+    if asked.elf or asked.map:
+        name = read_setup(asked.setup).image
+        image = read_image(name)
+        compare_map(program, image, name, NAME)
+        if asked.elf and (other := other_word(program, image)):
+            raise ProgramError(other)
     window = window_of(asked, program)
     look_at_size(asked, window)
     return shown(asked, view, window, marks, Names(program, Sources(asked.src)))
@@ -248,4 +226,7 @@ def main() -> int:
         return failed(NAME, fault)
     except KeyboardInterrupt:
         return failed(NAME, "stopped: nothing was written")
-    return put(asked.svg or asked.vcd or asked.konata, text)
+    try:
+        return put(NAME, getattr(asked, form_of(asked), STANDARD_OUTPUT), text)
+    except BrokenPipeError:
+        return 0

@@ -29,7 +29,6 @@ neither, unless it took longer than its budget by then. These lines come first.
 Exit status: 0; 1 if the run broke a loop's table, a claim, a budget or a bound; 2 if a section is UNKNOWN, if
 something can't be read or asked, or if the trace or the setup's image is of another program or thread;
 3 if a line of the trace is broken, or Ctrl-C came: the lines before it count."""
-from __future__ import annotations
 
 import argparse
 import json
@@ -44,13 +43,13 @@ from fptools.program.status import CANNOT
 from fptools.files.trace_blocks import Live, Progress, TraceReader
 from fptools.budget.bounds import called_functions, with_bound
 from fptools.budget.files import Budget, Result, Verdict, read_budgets
-from fptools.budget.budgets import Judge
+from fptools.budget.judge import Judge
 from fptools.budget.names import look_at_name
 from fptools.visits.claims import marks_for
 from fptools.files.elf import Function, ProgramError, other_word
 from fptools.flow.records import Marks
 from fptools.files.image import ImageError, read_image
-from fptools.files.labels import named_by
+from fptools.files.labels import compare_map, named_by
 from fptools.files.lint import read_valid
 from fptools.visits.observed import (
     DEFAULT_PERIOD,
@@ -62,7 +61,7 @@ from fptools.visits.observed import (
 )
 from fptools.visits.text import Text, as_csv, as_data
 from fptools.period.runs import PeriodRuns
-from fptools.budget.judged import judged, names_of
+from fptools.budget.results import judged, names_of
 from fptools.program.calls import HELP, Flexpret, RunFailed
 from fptools.budget.reports import data_of
 from fptools.files.setup import Setup
@@ -160,7 +159,7 @@ class Asked:
     def __init__(self, asked: argparse.Namespace) -> None:
         self.options = asked
         self.program = named_by(asked.elf, asked.map)
-        self.flexpret = Flexpret.named(asked.flexpret)
+        self.flexpret = Flexpret.named(asked.flexpret, bool(asked.cycles))
         self.setup: Setup | None = None
         self.code: dict[int, int] = {}
         if asked.setup:
@@ -171,6 +170,7 @@ class Asked:
             self.code = read_image(self.setup.image)
             if asked.elf and (other := other_word(self.program, self.code)):
                 raise Unclear(other)
+            compare_map(self.program, self.code, self.setup.image, "fp_visits")
         elif asked.elf:
             self.code = self.program.words
 

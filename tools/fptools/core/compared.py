@@ -1,5 +1,4 @@
 """A recorded run of a core, thread by thread, against the program's."""
-from __future__ import annotations
 
 import subprocess
 from collections import deque

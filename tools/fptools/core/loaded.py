@@ -1,5 +1,4 @@
 """A setup with its image as the driver of rtl/ reads it: a key and three numbers in each line."""
-from __future__ import annotations
 
 from typing import Iterator, Mapping, Sequence
 

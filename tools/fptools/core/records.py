@@ -6,7 +6,6 @@
         print(event.thread, event.line())
 
 docs/FLEXPRET.md has the signals and when they are sampled."""
-from __future__ import annotations
 
 import csv
 from dataclasses import dataclass

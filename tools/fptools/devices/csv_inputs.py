@@ -1,5 +1,4 @@
 """Inputs of a setup from a CSV file."""
-from __future__ import annotations
 
 import csv
 from dataclasses import dataclass

@@ -1,7 +1,7 @@
 """Runs of the program with a plant in another process, their pipes connected to each other."""
-from __future__ import annotations
 
 import os
+import re
 import select
 import signal
 import subprocess
@@ -54,8 +54,9 @@ class PlantRun:
 
     def words(self, plants: Path) -> list[str]:
         """The call of the program with a list of plants."""
-        numbers = map(str, (self.thread, self.every, self.cycles))
-        return [self.program, self.setup, str(plants), *numbers]
+        numbers = {"thread": self.thread, "every": self.every, "cycles": self.cycles}
+        options = [text for name, value in numbers.items() for text in (f"--{name}", str(value))]
+        return [self.program, self.setup, "--plants", str(plants), *options]
 
 
 @dataclass
@@ -208,9 +209,15 @@ def run_plant(run: PlantRun, plants: Path, parted: Parted) -> None:
         if status == 0:
             return
         if status != PLANT_FAULT and status > 0:
-            raise NotRun(parted.fault.decode().strip() or f"loop_cli ended with status {status}")
+            text = of_others(parted.fault.decode().strip())
+            raise NotRun(text or f"loop_cli ended with status {status}")
         ended = end(plant, SHORT) if b"ended" in parted.fault or status < 0 else None
         raise PlantFailed(said_of(parted, status, ended))
+
+
+def of_others(fault: str) -> str:
+    """A fault, where a line is that of the list of other plants: the pipe is in the line before."""
+    return re.sub(r"^line (\d+)", lambda found: f"line {int(found[1]) - 1}", fault)
 
 
 def said_of(parted: Parted, status: int, ended: int | None) -> str:

@@ -12,7 +12,6 @@ of the record can be taken by itself. Its names lead, by the imports
 of its file, to definitions: those in the `specs/` of a crate, and the types and traits of its
 `src/`. These lead to others. Names of the kit's own libraries lead nowhere here: the kit is
 trusted."""
-from __future__ import annotations
 
 import hashlib
 import re
@@ -20,6 +19,8 @@ from dataclasses import dataclass
 from functools import cached_property
 from pathlib import Path
 from typing import Iterable, Iterator, Mapping, Sequence
+
+from fptools.code.digraph import search
 
 IMPORT = re.compile(r"^\s*(?:ghost |pub )?use Rattle\.([\w.]+)\.\{([^}]*)\};?", re.M)
 DECLARATION = re.compile(
@@ -157,14 +158,8 @@ class Crates:
         self, clauses: Sequence[Clause], also: Sequence[Definition] = ()
     ) -> list[Definition]:
         """The definitions that some clauses stand on, and `also`, by file and line."""
-        found = {*also, *(one for it in clauses for one in it.also)}
-        ahead = [(it.file, it.text) for it in clauses] + [(it.file, it.text) for it in found]
-        while ahead:
-            file, text = ahead.pop()
-            for one in self._named(file, text):
-                if one not in found:
-                    found.add(one)
-                    ahead.append((one.file, one.text))
+        firsts = (one for it in clauses for one in (*it.also, *self._named(it.file, it.text)))
+        found = search([*also, *firsts], lambda it: self._named(it.file, it.text))
         return sorted(found, key=lambda it: (it.file, it.line))
 
     def _named(self, file: str, text: str) -> Iterator[Definition]:

@@ -1,16 +1,21 @@
 """The evidence for budgets: the question, the answers, the program, and what they stand on.
 
 Nothing of it is dated but by commits and records, so that the same input gives the same bytes."""
-from __future__ import annotations
 
 import hashlib
 import json
-import subprocess
 from dataclasses import dataclass
 from pathlib import Path
 from typing import Sequence
 
-from fptools.launch.sources import Checkout, commit_of, kit_line, read_stamp, said_by
+from fptools.launch.up_to_date import (
+    Checkout,
+    changes_of,
+    commit_of,
+    kit_line,
+    read_stamp,
+    said_by,
+)
 from fptools.budget.files import Result
 from fptools.checkout import TOP
 from fptools.evidence.clauses import Clause, Crates, Definition, NoClause, digest
@@ -211,18 +216,6 @@ def _named(path: Path) -> tuple[str, bool, str]:
     return text, True, stamp.kit
 
 
-def changes_of(top: Path) -> tuple[str, ...]:
-    """The tracked files of a checkout that differ from its commit."""
-    words = ["git", "--no-optional-locks", "status", "--porcelain", "--untracked-files=no"]
-    try:
-        ran = subprocess.run(words, cwd=top, capture_output=True, text=True, check=False)
-    except OSError:
-        return ()
-    return (
-        tuple(sorted(line[3:] for line in ran.stdout.splitlines())) if ran.returncode == 0 else ()
-    )
-
-
 def gate_record(path: Path = RECORD) -> Values | None:
     """What the last whole ./test recorded; None where there is no record."""
     try:
@@ -239,7 +232,6 @@ __all__ = [
     "NoClause",
     "Origin",
     "Promise",
-    "changes_of",
     "comparisons_of",
     "gate_record",
     "origin_of",

@@ -1,5 +1,4 @@
 """The page of a folder of evidence: HTML without a script, which needs no network."""
-from __future__ import annotations
 
 import re
 from collections import Counter
@@ -326,8 +325,8 @@ def repeat(evidence: Evidence) -> list[str]:
             " tests again, with the kit above."
         ),
         (
-            f"{code(evidence.command)}: this folder again, with the same bytes where nothing has"
-            " changed."
+            f"{code(evidence.command)}: this folder again, with the same bytes in each file where"
+            " nothing has changed."
         ),
     ]
     return [items(lines)]

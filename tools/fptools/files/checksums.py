@@ -2,7 +2,6 @@
 
 Each object has the lines of `sha256sum` for its sources and headers; a linker puts them one behind
 the other. The names are those that the compiler was given, from the folder in which it ran."""
-from __future__ import annotations
 
 import hashlib
 import re

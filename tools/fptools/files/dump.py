@@ -7,7 +7,6 @@
 
 docs/FORMATS.md says how old each part of a dump is: registers show the issues up to four cycles before,
 data and ports those up to three, the others those up to two."""
-from __future__ import annotations
 
 import re
 from dataclasses import dataclass

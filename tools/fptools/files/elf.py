@@ -1,5 +1,4 @@
 """An executable's words, symbols and source lines. Reading a file needs pyelftools."""
-from __future__ import annotations
 
 import io
 import re

@@ -1,5 +1,4 @@
 """The rules of fp_lint."""
-from __future__ import annotations
 
 import re
 from dataclasses import dataclass
@@ -7,12 +6,13 @@ from enum import Enum
 from pathlib import Path
 from typing import Callable, Iterator, Mapping
 
+from fptools.code.digraph import search
 from fptools.flow.counts import count_of_straight, jumps_of
 from fptools.files.image import ImageError, read_image
 from fptools.files.setup import KeyPath, Setup, read_setup, spelled
 from fptools.limits import DATA_START, LARGE
 from fptools.files.schemas import faults
-from fptools.isa.words import Flow, Word
+from fptools.isa.words import Word
 from fptools.untyped import Values
 
 SCHEMA = Path(__file__).resolve().parent / "setup.schema.json"
@@ -227,24 +227,13 @@ def _ports(setup: Setup) -> Iterator[Said]:
                 yield warning((*path, "inputs", index), "the port is unplugged by then")
 
 
-def _goes_on(word: Word) -> bool:
-    """Whether the next word can be reached, if calls come back."""
-    is_call = word.flow is Flow.CALL or word.flow is Flow.INDIRECT and word.rd != 0
-    return is_call or word.flow in (Flow.NEXT, Flow.BRANCH, Flow.WAIT)
-
-
 def _reachable(words: Words, entry: int) -> list[Word]:
     """The words that a thread can reach, where calls come back."""
-    reached: dict[int, Word] = {}
-    ahead = [entry]
-    while ahead:
-        pc = ahead.pop()
-        if pc in reached or pc >= LARGE:
-            continue
-        word = reached[pc] = Word(pc, words.get(pc, 0))
-        ahead += [word.next] if _goes_on(word) else []
-        ahead += [word.target] if word.target is not None else []
-    return list(reached.values())
+
+    def onward(pc: int) -> list[int]:
+        return [to for to in Word(pc, words.get(pc, 0)).onward if to < LARGE]
+
+    return [Word(pc, words.get(pc, 0)) for pc in search([entry], onward) if pc < LARGE]
 
 
 def _entries(setup: Setup, words: Words) -> Iterator[Said]:

@@ -2,6 +2,8 @@
 from __future__ import annotations
 
 import json
+import re
+import unicodedata
 from pathlib import Path
 from typing import TYPE_CHECKING, Collection, Iterator
 
@@ -27,7 +29,19 @@ def faults(schema: Path, values: Values) -> Iterator[ValidationError]:
         if fault.validator == "additionalProperties":
             known = fault.schema["properties"]
             fault.message = _unknown_keys(fault.instance, known, document["properties"])
+        if fault.validator == "not" and "pattern" in fault.validator_value:
+            if not isinstance(fault.instance, str):
+                continue  # its type is another fault
+            fault.message = _hidden(fault.instance, fault.validator_value["pattern"])
         yield fault
+
+
+def _hidden(text: str, pattern: str) -> str:
+    """The message about a character that a text mustn't have, as none shows or changes the order of others."""
+    found = re.search(pattern, text)
+    sign = found[0] if found else text[:1]
+    name = unicodedata.name(sign, "a control character")
+    return f"{text!a} has U+{ord(sign):04X} ({name}), which isn't shown as it is: take it out"
 
 
 def best(found: Iterator[ValidationError]) -> ValidationError | None:

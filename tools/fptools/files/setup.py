@@ -14,7 +14,7 @@ import tomllib
 from dataclasses import dataclass
 from functools import cached_property
 from pathlib import Path
-from typing import Iterator
+from typing import Callable, Iterator
 
 from fptools.files.toml import read_toml
 from fptools.limits import DATA_START, LARGE, SMALL
@@ -131,6 +131,17 @@ class Setup:
         """Whose the region of an address is, of `i_regions` or `d_regions`."""
         owner: str = self.values[key][address % DATA_START * REGIONS // self.size]
         return owner
+
+    def fetches(self, number: int) -> Callable[[int], bool]:
+        """Whether a thread may fetch a word of the instruction scratchpad, by its address."""
+        table = self.thread(number)
+        own = (f"T{number}", "readonly")
+
+        def may_fetch(pc: int) -> bool:
+            is_free = table is not None and not table.confined
+            return pc < self.size and (is_free or self.region("i_regions", pc) in own)
+
+        return may_fetch
 
 
 def read_setup(path: Path) -> Setup:

@@ -1,5 +1,4 @@
 """The lines of sources, for messages and reports."""
-from __future__ import annotations
 
 from pathlib import Path
 from typing import Collection

@@ -1,5 +1,4 @@
 """TOML files with a message of their own for each way in which they can't be read."""
-from __future__ import annotations
 
 import re
 import tomllib

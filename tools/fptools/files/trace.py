@@ -8,7 +8,6 @@
 
 At a line that is no event `read_trace` raises `BrokenTrace`; it has given all events before it. If few
 events of a long trace are wanted, `fptools.files.trace_blocks` and `fptools.visits.visits` are ten times as fast."""
-from __future__ import annotations
 
 import re
 from dataclasses import dataclass

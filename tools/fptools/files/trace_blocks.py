@@ -2,7 +2,6 @@
 
 A trace may have 10^9 lines, so a line is parsed only if something needs it. Each event becomes one
 character, by its pc. Sections, loops and calls are found in these texts by regular expressions."""
-from __future__ import annotations
 
 import os
 import re

@@ -26,13 +26,13 @@ can't be too small, if the claims are true:
    that sum, or no visit ends, there is no bound: a loop that nothing leaves has none.
 
 An expiry may end a visit anywhere. Claims are of runs as they would go on."""
-from __future__ import annotations
 
 from dataclasses import dataclass
 from fractions import Fraction
 from math import lcm
 from typing import Iterator, Sequence
 
+from fptools.code.digraph import Graph
 from fptools.flow.graph import END, ENTRY, Edge, LoopFlow
 from fptools.flow.program import Row, factors_of
 from fptools.flow.records import Claim, Kind
@@ -128,17 +128,5 @@ def _longest(
 def _order(flow: LoopFlow) -> dict[int, int]:
     """The places in an order in which edges lead onward, but for those of cycles: a depth-first
     search, reversed."""
-    onward = flow.onward()
-    done: list[int] = []
-    seen = {ENTRY}
-    ahead = [(ENTRY, iter(onward.get(ENTRY, ())))]
-    while ahead:
-        place, edges = ahead[-1]
-        edge = next(edges, None)
-        if edge is None:
-            done.append(place)
-            ahead.pop()
-        elif edge.end not in seen:
-            seen.add(edge.end)
-            ahead.append((edge.end, iter(onward.get(edge.end, ()))))
-    return {place: at for at, place in enumerate(reversed(done))}
+    graph = Graph(((it.start, it.end) for it in flow.edges), [ENTRY])
+    return {place: at for at, place in enumerate(reversed(graph.postorder(ENTRY)))}

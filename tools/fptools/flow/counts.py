@@ -6,12 +6,12 @@ a round to the test add the same number to the counter, and so do all whole roun
 same at each test, or moves in this way too. Where both are known on entry, the test is computed
 with 32 bits until it leaves. Where only their distance is known, they have to meet. Each round
 passes one of some tests that leave the loop in the same round."""
-from __future__ import annotations
 
 from dataclasses import dataclass
 from math import gcd
 from typing import Collection, Iterator, Mapping
 
+from fptools.code.digraph import search
 from fptools.flow.records import MOST_ROUNDS
 from fptools.code.section import Loop, Section, walk
 from fptools.code.values import State, Value, Values, adds, jumps_of, signed, unknown, written_by
@@ -106,18 +106,12 @@ class _Tests:
 
     def are_passed(self, some: Collection[int]) -> bool:
         """Whether each round passes one of some words."""
-        seen: set[int] = set()
-        ahead = [self.loop.head]
-        while ahead:
-            pc = ahead.pop()
-            if pc in seen or pc in some:
-                continue
-            seen.add(pc)
-            onward = [to for to in self.section.graph[pc] if to in self.loop.body]
-            if self.loop.head in onward:
-                return False
-            ahead += onward
-        return True
+
+        def onward(pc: int) -> list[int]:
+            return [to for to in self.section.graph[pc] if to in self.loop.body]
+
+        head = self.loop.head
+        return all(head not in onward(pc) for pc in search([head], onward, some))
 
     def backs(self, test: Word) -> int | None:
         """How often a test stays in the loop before it leaves."""

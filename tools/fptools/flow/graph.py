@@ -4,7 +4,6 @@ A visit begins where the loop's head is entered from outside, and ends where the
 may end at each word with an edge out of the loop, at a load, a store or a CSR instruction, which
 may trap, and at a call or a wait, which may not come back. A mark is passed on arrival at its word,
 also if that word traps then."""
-from __future__ import annotations
 
 from collections import defaultdict
 from dataclasses import dataclass, field

@@ -4,12 +4,12 @@ counts of the code.
 Both look at one visit, from the section's first word until it is left. So all code that a visit may
 issue has to be known: where a section or a function is left by a jump or call to other code, which
 may come back, its loops have no bound here. A trap ends a visit."""
-from __future__ import annotations
 
 from dataclasses import dataclass, field, replace
 from functools import cached_property
 from typing import Collection, Iterator, Mapping, Sequence
 
+from fptools.code.digraph import search
 from fptools.flow.counts import Count, called_with, count_of
 from fptools.files.elf import Function, Program
 from fptools.flow.bound import facts_of, most_backs
@@ -169,20 +169,15 @@ class Inference:
 
     def _comes_back(self, function: Function) -> bool:
         functions = {it.start: it for it in self.program.functions}
-        seen: set[int] = set()
-        ahead = [function.start]
-        while ahead:
-            start = ahead.pop()
-            if start in seen:
-                continue
-            seen.add(start)
+        parts: dict[int, Section] = {}
+        for start in search([function.start], lambda it: parts[it].callees):
             part = walk(self.words, start, functions[start].end, functions, is_function=True)
+            parts[start] = part
             unseen = UNSEEN if start != function.start else (Exit.CALL, Exit.INDIRECT)
             if any(way.exit in unseen for way in part.ways_out) or _unseen_call(part):
                 return False
             if start != function.start and wrong_return(part, self.changed_by, self.words):
                 return False
-            ahead += part.callees
         return True
 
     def values_from(self, start: int, entries: Collection[int], first: State | None) -> Values:

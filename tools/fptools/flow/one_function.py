@@ -5,7 +5,6 @@ A linker may fold functions of the same code. Then one of them would have the lo
 Three kinds of code only look like that: the constructor of a class, which has two names in C++, and
 its destructor; a function with an alias; and an inline function, whose lines are in each unit that
 compiles it, while the linker keeps the code of one."""
-from __future__ import annotations
 
 import re
 from collections import defaultdict

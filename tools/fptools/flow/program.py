@@ -2,7 +2,6 @@
 
 Only the factors of the claims in its dual solution leave this module. Whoever takes them shows that
 they are some: no number depends on a solver, or on how the program is made smaller here."""
-from __future__ import annotations
 
 from collections import defaultdict
 from dataclasses import dataclass

@@ -1,5 +1,4 @@
 """Why the marks don't bound a loop, with the lines of its source, and what to write."""
-from __future__ import annotations
 
 from typing import Collection, Iterable, Sequence
 

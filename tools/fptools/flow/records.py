@@ -26,6 +26,7 @@ from dataclasses import dataclass, field
 from enum import Enum
 from typing import Mapping, Sequence
 
+from fptools.code.digraph import search
 from fptools.files.elf import Program
 from fptools.flow.one_function import is_one
 from fptools.isa.words import RETURN, Flow, Word
@@ -258,9 +259,7 @@ class Marks:
     def _falls(self, to: int) -> bool:
         """Whether the word before a place goes on there, and not by a jump too."""
         before = Word(to - 4, self.words.get(to - 4, 0))
-        goes_on = before.flow in (Flow.NEXT, Flow.BRANCH, Flow.CALL, Flow.WAIT)
-        comes_back = before.flow is Flow.INDIRECT and before.rd != 0
-        return (goes_on or comes_back) and before.target != to
+        return before.goes_on and before.target != to
 
     def entered_by(self, function: int) -> frozenset[Claim] | None:
         """The claims whose FP_LOOP may be passed in a called function and in what it calls, also by
@@ -271,19 +270,10 @@ class Marks:
         return self._entered[function]
 
     def _reached_from(self, function: int) -> frozenset[Claim] | None:
-        seen: set[int] = set()
-        ahead, found = [function], set()
-        while ahead:
-            pc = ahead.pop()
-            if pc in seen:
-                continue
-            seen.add(pc)
+        found = set[Claim]()
+        for pc in search([function], lambda pc: Word(pc, self.words.get(pc, 0)).onward):
             found |= {mark.claim for mark in self.at(pc) if mark.kind is Kind.LOOP}
             word = Word(pc, self.words.get(pc, 0))
             if word.flow is Flow.INDIRECT and word.bits != RETURN:
                 return None
-            if word.flow in (Flow.NEXT, Flow.BRANCH, Flow.WAIT, Flow.CALL):
-                ahead.append(word.next)
-            if word.target is not None:
-                ahead.append(word.target)
         return frozenset(it for it in self.claims if any(map(it.may_be, found)))

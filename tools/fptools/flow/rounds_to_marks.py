@@ -2,7 +2,6 @@
 
 It knows loops by `for`, `while` and `do`, and labels to which a `goto` leads. It reads no macro,
 and so it is a help only: look at what it makes."""
-from __future__ import annotations
 
 import re
 from collections.abc import Iterator

@@ -1,5 +1,4 @@
 """The simplex method in fractions, for small linear programs."""
-from __future__ import annotations
 
 from collections import defaultdict
 from dataclasses import dataclass

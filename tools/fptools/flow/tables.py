@@ -1,5 +1,4 @@
 """The loops of a section as tables for a setup, and how the section is left."""
-from __future__ import annotations
 
 from typing import Iterator, Sequence
 

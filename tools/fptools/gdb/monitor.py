@@ -126,9 +126,9 @@ class Monitor:
                 f"T{thread} has no bound there: no [[loop]] of the setup states a loop of it, and"
             )
             raise Misuse(f"{text} python3-jsonschema isn't installed, by which fp_budget bounds it")
-        from fptools.budget.budgets import Assumption, Budget, Judge, Verdict
+        from fptools.budget.judge import Assumption, Budget, Judge, Verdict
         from fptools.files.image import read_image
-        from fptools.budget.judged import judged
+        from fptools.budget.results import judged
         from fptools.files.setup import read_setup
 
         runs = self.machine.runs

@@ -1,5 +1,4 @@
 """The text of instruction words, by an objdump that knows RISC-V; the timing instructions are the core's own."""
-from __future__ import annotations
 
 import re
 import shutil

@@ -1,5 +1,4 @@
 """When a hard thread issues: its turns in the frame, and the lag of each instruction."""
-from __future__ import annotations
 
 from dataclasses import dataclass
 

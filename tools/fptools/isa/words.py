@@ -1,20 +1,19 @@
 """How control goes on from an instruction word, as far as sections, loops and budgets need to know."""
-from __future__ import annotations
 
 from dataclasses import dataclass
 from enum import Enum, auto
 
-from fptools.isa import instructions
-from fptools.isa.instructions import EBREAK as EBREAK
-from fptools.isa.instructions import ECALL as ECALL
-from fptools.isa.instructions import MRET as MRET
-from fptools.isa.instructions import get
+from fptools.isa import encodings
+from fptools.isa.encodings import EBREAK as EBREAK
+from fptools.isa.encodings import ECALL as ECALL
+from fptools.isa.encodings import MRET as MRET
+from fptools.isa.encodings import get
 
-OPCODE_BRANCH, OPCODE_JALR, OPCODE_JAL = instructions.BRANCH, instructions.JALR, instructions.JAL
-OPCODE_SYSTEM, OPCODE_TIMING = instructions.SYSTEM, instructions.TIMING
-OPCODE_LOAD, OPCODE_STORE = instructions.LOAD, instructions.STORE
-OPCODE_LUI, OPCODE_AUIPC = instructions.LUI, instructions.AUIPC
-OPCODE_IMMEDIATE, OPCODE_REGISTERS = instructions.IMMEDIATE, instructions.REGISTERS
+OPCODE_BRANCH, OPCODE_JALR, OPCODE_JAL = encodings.BRANCH, encodings.JALR, encodings.JAL
+OPCODE_SYSTEM, OPCODE_TIMING = encodings.SYSTEM, encodings.TIMING
+OPCODE_LOAD, OPCODE_STORE = encodings.LOAD, encodings.STORE
+OPCODE_LUI, OPCODE_AUIPC = encodings.LUI, encodings.AUIPC
+OPCODE_IMMEDIATE, OPCODE_REGISTERS = encodings.IMMEDIATE, encodings.REGISTERS
 OPCODES_WITHOUT_RESULT = (OPCODE_STORE, OPCODE_BRANCH)
 
 RETURN = 0x0000_8067  # jalr x0, 0(x1)
@@ -71,7 +70,7 @@ class Word:
     @property
     def is_code(self) -> bool:
         """False for a word that is no instruction of the core, as one that nothing placed."""
-        return instructions.decode(self.bits) is not None
+        return encodings.decode(self.bits) is not None
 
     @property
     def flow(self) -> Flow:
@@ -95,11 +94,26 @@ class Word:
     @property
     def target(self) -> int | None:
         """The target of a branch, jump or call."""
-        return instructions.target(self.pc, self.bits)
+        return encodings.target(self.pc, self.bits)
 
     @property
     def next(self) -> int:
         return self.pc + 4
+
+    @property
+    def is_call(self) -> bool:
+        """Whether it is a call, by a name or by a pointer."""
+        return self.flow is Flow.CALL or self.flow is Flow.INDIRECT and self.rd != 0
+
+    @property
+    def goes_on(self) -> bool:
+        """Whether the next word may follow, if calls come back."""
+        return self.is_call or self.flow in (Flow.NEXT, Flow.BRANCH, Flow.WAIT)
+
+    @property
+    def onward(self) -> list[int]:
+        """Where control may go on: at the next word, if calls come back, and at the target."""
+        return [self.next] * self.goes_on + ([] if self.target is None else [self.target])
 
     @property
     def csr(self) -> int | None:

@@ -1,7 +1,6 @@
 """The command line of the program: the wrong argument, the allowed values, and the files that it names.
 
-The rules are those of `read_words` in the crate ask_words; the tests compare both on the rows of the gate."""
-from __future__ import annotations
+The rules are those of `read_words` in the crate command_line; the tests compare both on the rows of the gate."""
 
 import difflib
 import re

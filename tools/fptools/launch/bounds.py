@@ -1,25 +1,19 @@
 """The warnings about a bound: edges that leave the section other than by its end, and a bound of 0."""
-from __future__ import annotations
 
 from pathlib import Path
 from typing import Iterator, Mapping
 
+from fptools.code.digraph import search
 from fptools.files.image import ImageError, read_image
-from fptools.isa.instructions import EBREAK, ECALL, edges, is_call
+from fptools.isa.encodings import EBREAK, ECALL, edges, is_call
 from fptools.launch.arguments import address, parse
 from fptools.launch.setups import image_of
 
 
 def reached(words: Mapping[int, int], start: int, end: int) -> list[int]:
     """The addresses of a section that are reachable from its first."""
-    found: set[int] = set()
-    ahead = [start]
-    while ahead:
-        pc = ahead.pop()
-        if pc not in found and start <= pc < end:
-            found.add(pc)
-            ahead += edges(pc, words.get(pc, 0))
-    return sorted(found)
+    found = search([start], lambda pc: edges(pc, words.get(pc, 0)) if start <= pc < end else ())
+    return sorted(pc for pc in found if start <= pc < end)
 
 
 def ways_out(words: Mapping[int, int], start: int, end: int) -> Iterator[str]:

@@ -1,5 +1,4 @@
 """The messages about a command's files if one of them can't be read."""
-from __future__ import annotations
 
 import os
 from pathlib import Path

@@ -1,12 +1,11 @@
 """The commands of tools/fp_launch: fp_launch SCRIPT CRATE COMMAND ARGUMENT.."""
-from __future__ import annotations
 
 import os
 import sys
 from pathlib import Path
 
 from fptools.checkout import TOP
-from fptools.launch.sources import Checkout, kit_line, read_stamp
+from fptools.launch.up_to_date import Checkout, kit_line, read_stamp
 from fptools.program.status import NOT_BUILT, Status
 
 # The other modules are imported by the commands that need them, since each call waits for its imports.
@@ -44,6 +43,13 @@ def unproved(script: str, checkout: Checkout, words: list[str]) -> int:
     except (NotBuilt, OSError) as fault:
         say(script, str(fault))
         return NOT_BUILT
+
+
+def draw(script: str, checkout: Checkout, words: list[str]) -> int:
+    """Draws the window of `turns`. The arguments are the program and then the command."""
+    from fptools.launch.drawing import draw as draw_window
+
+    return draw_window(script, words[0], words[1:])
 
 
 def explain(script: str, checkout: Checkout, words: list[str]) -> int:
@@ -130,7 +136,7 @@ def version(script: str, checkout: Checkout, words: list[str]) -> int:
 
 COMMANDS = {
     "is-built": is_built, "build": build, "unproved": unproved, "explain": explain, "files": files, "warn": warn, "option": option,
-    "version": version, "nothing": nothing,
+    "version": version, "nothing": nothing, "draw": draw,
 }  # fmt: skip
 
 

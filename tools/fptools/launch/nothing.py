@@ -1,5 +1,4 @@
 """Why a run has no event."""
-from __future__ import annotations
 
 import tomllib
 from pathlib import Path

@@ -3,7 +3,7 @@
 `./flexpret bound` calls this after each result, so it imports little. The status is 1 for all that isn't plain: a setup whose image
 isn't a plain string, a word that isn't in the image, a call, an indirect jump, a trap, a wait, a jump to another address."""
 from fptools.files.image import ImageError, read_image
-from fptools.isa.instructions import edges, is_call
+from fptools.isa.encodings import edges, is_call
 
 
 def image_of(setup: str) -> str:

@@ -1,5 +1,4 @@
 """The image that a setup names."""
-from __future__ import annotations
 
 import tomllib
 from pathlib import Path

@@ -1,7 +1,6 @@
 """A separate folder for each crate that is proved.
 
 `rt` locks the folders of a crate and of all crates that it uses, so two proofs in one checkout would wait for each other."""
-from __future__ import annotations
 
 import contextlib
 import fcntl
@@ -11,25 +10,27 @@ import sys
 from pathlib import Path
 from typing import Iterator
 
-from fptools.launch.sources import PARTS, Checkout
+from fptools.launch.up_to_date import PARTS, Checkout
 
 KEPT = ("rlib", "incremental")
 """The folders of a crate's out that `rt lib` makes: the library, and the answers that a later proof reuses."""
 
 
 @contextlib.contextmanager
-def locked(folder: Path, waits: str = "") -> Iterator[None]:
-    """Locks a crate's folder against `rt`. If one is running in it, prints a line and waits for its end."""
-    held = os.open(folder, os.O_RDONLY)
+def locked(place: Path, waits: str = "") -> Iterator[bool]:
+    """Locks a file, or a crate's folder against `rt`. If another call has it, prints a line and waits for its end.
+    The value is whether it had to wait."""
+    held, waited = os.open(place, os.O_RDONLY), False
     try:
         with contextlib.suppress(OSError):  # a file system without locks
             try:
                 fcntl.flock(held, fcntl.LOCK_EX | fcntl.LOCK_NB)
             except BlockingIOError:
+                waited = True
                 if waits:
                     print(waits, file=sys.stderr, flush=True)
                 fcntl.flock(held, fcntl.LOCK_EX)
-        yield
+        yield waited
     finally:
         os.close(held)
 

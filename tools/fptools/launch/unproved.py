@@ -1,19 +1,22 @@
 """A run without a proof: `rt try` compiles the current sources, and runs the program once."""
-from __future__ import annotations
 
 import re
 import shutil
 import subprocess
 import sys
 import tempfile
+from contextlib import suppress
 from dataclasses import dataclass, field
 from pathlib import Path
-from typing import BinaryIO
 
-from fptools.launch.arguments import VALUES, files_of
+from fptools.launch.arguments import COMMANDS, VALUES, parse
 from fptools.launch.build import NotBuilt
+from fptools.launch.drawing import write
 from fptools.launch.setups import image_of
-from fptools.launch.sources import Checkout
+from fptools.launch.up_to_date import Checkout
+from fptools.launch.view import form_of
+from fptools.launch.view import parse as parse_view
+from fptools.view.rows import rows_of
 
 SECONDS = 60
 """The time limit of `rt try` for the program."""
@@ -61,47 +64,26 @@ class Handed:
 
 def hand_over(words: list[str], folder: Path) -> Handed:
     """The program's arguments, with other names for the files in them. Each file is named by one argument."""
-    files = dict(files_of(words))
+    name, asked = parse(words)
     handed = Handed(folder=folder)
-    subject_seen = False
-    waiting = ""
-    for at, word in enumerate(words):
-        option, sign, value = word.removeprefix("--").partition("=")
-        if at == 0:
-            handed.words.append(word)
-        elif waiting:
-            handed.words.append(handed.add(word) if VALUES[waiting] == "FILE" else word)
-            waiting = ""
-        elif word.startswith("--"):
-            is_file = sign and VALUES[option] == "FILE"
-            handed.words.append(f"--{option}={handed.add(value)}" if is_file else word)
-            waiting = "" if sign else option
-        elif not subject_seen and word in files:
-            subject_seen = True
-            handed.words.append(
-                handed.add_setup(word) if files[word] == "setup" else handed.add(word)
-            )
-        else:
-            handed.words.append(word)
+    subject, kind = asked.subjects[0], COMMANDS[name].subject
+    if kind != "NUMBER":
+        subject = handed.add_setup(subject) if kind == "SETUP" else handed.add(subject)
+    handed.words = [name, subject]
+    for option, (value,) in asked.values.items():
+        text = handed.add(value) if VALUES[option] == "FILE" else value
+        handed.words.append(f"--{option}={text}")
     return handed
 
 
-def hand_over_view(words: list[str], folder: Path) -> tuple[Handed, str]:
-    """The same for the view. Its form goes to standard output; the second value is the file for it, or nothing."""
-    handed, into = Handed(folder=folder), ""
-    left = iter(words)
-    for word in left:
-        option, sign, value = word.partition("=")
-        if option in ("--konata", "--vcd", "--svg"):
-            into = value if sign else next(left, "")
-            handed.words += [option, "-"]
-        elif option == "--progress":
-            value or next(left, "")
-        elif word.startswith("--"):
-            handed.words += [word] if sign else [word, next(left, "")]
-        else:
-            handed.words.append(handed.add_setup(word) if handed.words else word)
-    return handed, "" if into == "-" else into
+def hand_over_view(words: list[str], folder: Path) -> Handed:
+    """The same for the view, which writes the state for a drawing. It shows no progress."""
+    asked, handed = parse_view(words), Handed(folder=folder)
+    window = [f"--{one}={asked.value(one)}" for one in ("from", "to")]
+    handed.words = ["turns", handed.add_setup(asked.subjects[0]), *window]
+    if form_of(asked) or "state" in asked.values:
+        handed.words.append("--state")
+    return handed
 
 
 def run(script: str, checkout: Checkout, words: list[str]) -> int:
@@ -111,35 +93,35 @@ def run(script: str, checkout: Checkout, words: list[str]) -> int:
     if shutil.which("rt") is None:
         raise NotBuilt("rt of the kit that README.md names isn't on the PATH")
     with tempfile.TemporaryDirectory(prefix="flexpret-") as name:
-        folder, into = Path(name), ""
-        if checkout.crate == "flexpret_cli":
-            handed = hand_over(words, folder)
-        else:
-            handed, into = hand_over_view(words, folder)
+        folder, is_view = Path(name), checkout.crate != "flexpret_cli"
+        handed = (hand_over_view if is_view else hand_over)(words, folder)
         print(
             f"{script}: nothing of this answer is proved; it takes about a minute",
             file=sys.stderr,
             flush=True,
         )
-        with open(into, "wb") if into else open(1, "wb", closefd=False) as out:
-            status, said = try_program(checkout, handed, out)
+        status, output, said = try_program(checkout, handed)
+    if status == 0 and is_view and form_of(asked := parse_view(words)):
+        status = write(script, asked, rows_of(output.decode().splitlines()))
+    else:
+        with suppress(BrokenPipeError), open(1, "wb", closefd=False) as out:
+            out.write(output)
     sys.stderr.write("".join(f"{line}\n" for line in said.splitlines() if not OWN_LINE.match(line)))
     return status
 
 
-def try_program(checkout: Checkout, handed: Handed, out: BinaryIO) -> tuple[int, str]:
-    """Runs `rt try`, and returns the program's status and its standard error. If the program doesn't end by itself, raises NotBuilt."""
+def try_program(checkout: Checkout, handed: Handed) -> tuple[int, bytes, str]:
+    """Runs `rt try`, and returns the program's status and its output on both streams. If the program doesn't end by itself, raises NotBuilt."""
     data = [word for name, file in handed.data.items() for word in ("--data", f"{name}={file}")]
     ran = subprocess.run(
         ["rt", "try", *data, "--seconds", str(SECONDS), "--", *handed.words], cwd=checkout.top / "crates" / checkout.crate,
-        stdin=subprocess.DEVNULL, stdout=out, stderr=subprocess.PIPE, text=True, errors="replace", check=False,
+        stdin=subprocess.DEVNULL, capture_output=True, check=False,
     )  # fmt: skip
-    ended = ENDED.search(ran.stderr)
+    said = ran.stderr.decode(errors="replace")
+    ended = ENDED.search(said)
     if ended and int(ended[1]) == ran.returncode:
-        return ran.returncode, ran.stderr
-    lines = [line for line in ran.stderr.splitlines() if line.strip()] or [
-        f"status {ran.returncode}"
-    ]
+        return ran.returncode, ran.stdout, said
+    last = next((line for line in reversed(said.splitlines()) if line.strip()), None)
     raise NotBuilt(
-        f"no answer: rt try gives up after {SECONDS} seconds or {MOST_OUTPUT} bytes of output ({lines[-1][:200]})"
+        f"no answer: rt try gives up after {SECONDS} seconds or {MOST_OUTPUT} bytes of output ({(last or f'status {ran.returncode}')[:200]})"
     )

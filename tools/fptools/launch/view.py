@@ -1,16 +1,12 @@
 """The command line of the view: the faults that can be found before the program is built."""
-from __future__ import annotations
 
 from typing import Sequence
 
 from fptools.launch.arguments import BEFORE_VIEW, Asked, Fault, option_of, unknown_option_before
-from fptools.limits import MOST_CYCLES
+from fptools.limits import MOST_CYCLES, MOST_PICTURE
 
 MOST_CYCLE = MOST_CYCLES - 3
 """The largest end of a window, in cycles."""
-
-MOST_COLUMNS = 2000
-"""The most cycles of a picture."""
 
 FORMS = ("konata", "vcd", "svg")
 OPTIONS = {
@@ -21,10 +17,12 @@ OPTIONS = {
     "svg": "FILE",
     "progress": "UNTIL",
 }
+FLAG = "--state"
+"""The option without a value. It is for text only."""
 
 
 def unknown_option(word: str) -> str:
-    return f"{word}: the options are {', '.join(f'--{one}' for one in OPTIONS)}"
+    return f"{word}: the options are {', '.join([*(f'--{one}' for one in OPTIONS), FLAG])}"
 
 
 def parse(words: Sequence[str]) -> Asked:
@@ -38,7 +36,9 @@ def parse(words: Sequence[str]) -> Asked:
     asked = Asked()
     left = iter(words[1:])
     for word in left:
-        if word.startswith("--"):
+        if word == FLAG:
+            asked.values["state"] = [""]
+        elif word.startswith("--"):
             option, value = option_of(word, left, OPTIONS, unknown_option)
             if option in asked.values:
                 raise Fault(f"--{option} is given twice")
@@ -49,6 +49,11 @@ def parse(words: Sequence[str]) -> Asked:
     if fault := missing(asked) or window_fault(asked):
         raise Fault(fault)
     return asked
+
+
+def form_of(asked: Asked) -> str | None:
+    """The form that isn't text."""
+    return next((form for form in FORMS if form in asked.values), None)
 
 
 def look_at_value(option: str, value: str) -> None:
@@ -71,7 +76,7 @@ def missing(asked: Asked) -> str | None:
         return f"turns needs {' and '.join(absent)}"
     if len(asked.subjects) > 1:
         return f"{asked.subjects[1]}: turns takes one SETUP, and {asked.subjects[0]} is that"
-    forms = [f"--{form}" for form in FORMS if form in asked.values]
+    forms = [f"--{form}" for form in (*FORMS, "state") if form in asked.values]
     return f"{' and '.join(forms)}: one form at a time" if len(forms) > 1 else None
 
 
@@ -80,6 +85,6 @@ def window_fault(asked: Asked) -> str | None:
     first, end = int(asked.value("from")), int(asked.value("to"))
     if first >= end:
         return f"--from {first} --to {end}: --from is below --to"
-    if "svg" in asked.values and end - first > MOST_COLUMNS:
-        return f"--from {first} --to {end}: a picture has at most {MOST_COLUMNS} cycles"
+    if "svg" in asked.values and end - first > MOST_PICTURE:
+        return f"--from {first} --to {end}: a picture has at most {MOST_PICTURE} cycles"
     return None

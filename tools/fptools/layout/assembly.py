@@ -1,5 +1,4 @@
 """Reads the assembly that gcc and clang write for RV32IM with -S: functions, statements, and the flow of control."""
-from __future__ import annotations
 
 import re
 from collections.abc import Iterator, Sequence
@@ -10,20 +9,20 @@ WORD = 4
 """The bytes of an instruction."""
 
 
-class Stays(Exception):
-    """A function can't be laid out. Has the line of the assembly that prevents it, and why."""
+class AtLine(Exception):
+    """What is wrong at a line (0: in the whole file), and why."""
 
     def __init__(self, line: int, why: str) -> None:
         super().__init__(why)
         self.line, self.why = line, why
 
 
-class Fault(Exception):
-    """The file is refused. Has the line of the assembly (0: the whole file), and why."""
+class Stays(AtLine):
+    """A function can't be laid out, because of a line of the assembly."""
 
-    def __init__(self, line: int, why: str) -> None:
-        super().__init__(why)
-        self.line, self.why = line, why
+
+class Fault(AtLine):
+    """The file is refused."""
 
 
 class Flow(Enum):

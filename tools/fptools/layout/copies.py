@@ -1,13 +1,12 @@
 """Copies of blocks: for loops with several entries, for sections that share a trap with other code, and of loops' tests."""
-from __future__ import annotations
 
 from collections.abc import Iterable, Iterator
 from dataclasses import dataclass
 
-from fptools.code.digraph import Graph
+from fptools.code.digraph import Graph, search
 from fptools.layout.assembly import Stays
 from fptools.layout.blocks import Block, Item, Part
-from fptools.layout.regions import Flows, Loop, Nest, Section
+from fptools.layout.block_order import Flows, Loop, Nest, Section
 
 MOST_CANDIDATES = 16
 """So many entries of a loop are tried as its head."""
@@ -87,16 +86,8 @@ def _best_head(flows: Flows, inside: set[int], entries: list[int]) -> int:
 
 def _before_head(flows: Flows, inside: set[int], entries: list[int], head: int) -> set[int]:
     """The blocks of a loop that entries reach before a head."""
-    seen, ahead = set(entries), list(entries)
-    while ahead:
-        new = {
-            it
-            for it in flows.next_blocks[ahead.pop()]
-            if it in inside and it != head and it not in seen
-        }
-        seen |= new
-        ahead += sorted(new)
-    return seen
+    onward = {it: [to for to in flows.next_blocks[it] if to in inside] for it in inside}
+    return {*search(entries, onward.__getitem__, [head])}
 
 
 def _copy(blocks: list[Block], flows: Flows, entry: Entry) -> None:

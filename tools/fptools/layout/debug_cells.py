@@ -1,12 +1,11 @@
 """The sections of a debugger's tables, as gcc and clang write them with -S: directives read as a
 sequence of bytes."""
-from __future__ import annotations
 
 import re
 from collections.abc import Iterator, Sequence
 from dataclasses import dataclass
 
-from fptools.layout.assembly import Kind, statements
+from fptools.layout.assembly import AtLine, Kind, statements
 
 SIZES = {
     **dict.fromkeys((".byte", ".1byte"), 1),
@@ -30,12 +29,8 @@ CONTINUED = 0x80
 """The bit of a byte after which a number goes on, and the least number of two bytes."""
 
 
-class Unread(Exception):
-    """A table isn't understood. Has the line, and why."""
-
-    def __init__(self, line: int, why: str) -> None:
-        super().__init__(why)
-        self.line, self.why = line, why
+class Unread(AtLine):
+    """A table isn't understood."""
 
 
 @dataclass(frozen=True)

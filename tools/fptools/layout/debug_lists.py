@@ -1,5 +1,4 @@
 """Lists of ranges and of locations in a debugger's tables, as gcc and clang write them with -S."""
-from __future__ import annotations
 
 import re
 from collections.abc import Iterator, Mapping, Sequence

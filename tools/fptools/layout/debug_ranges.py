@@ -3,7 +3,6 @@
 A range in the compiler's assembly goes from a label to a label. In the new order it is several
 pieces: each covers instructions that the range covered before, and no others. Lists of locations
 and of ranges get an entry for each piece. A scope with two addresses gets a list of ranges."""
-from __future__ import annotations
 
 import re
 from bisect import bisect_left

@@ -1,6 +1,5 @@
 """The scopes in `.debug_info`, as gcc and clang write it with -S: the entries that have two
 addresses."""
-from __future__ import annotations
 
 from collections.abc import Iterator, Sequence
 from dataclasses import dataclass

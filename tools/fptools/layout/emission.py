@@ -1,5 +1,4 @@
 """Writes blocks as assembly in a given order: inverts branches, adds and omits jumps, restates lines and frames."""
-from __future__ import annotations
 
 from collections.abc import Mapping, Sequence
 from dataclasses import dataclass, field

@@ -1,5 +1,4 @@
 """Orders the blocks of compiled functions so that the analyser takes each loop, and nothing leaves a section."""
-from __future__ import annotations
 
 import re
 from collections.abc import Sequence
@@ -22,7 +21,7 @@ from fptools.layout.debug_cells import Unread
 from fptools.layout.debug_ranges import Debugged, Moved, Origin
 from fptools.layout.emission import Names, Writer, as_compiled, ends_of, mark_far
 from fptools.layout.loop_marks import check_marks, with_records
-from fptools.layout.regions import (
+from fptools.layout.block_order import (
     MOST_AROUND,
     Flows,
     Irreducible,

@@ -14,7 +14,6 @@ of the assembly, in exclusive or with the function's. With FP_FLOW_DIRECT it is 
 string has FP_FLOW_DIRECT and the unit's main file, and `.fp_flow_units` has that string once for
 each unit: two equal ones can't be told apart. `.fp_flow_aliases` has the aliases of a unit's
 functions, which a linker's folding would look like."""
-from __future__ import annotations
 
 import re
 import zlib

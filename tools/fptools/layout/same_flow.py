@@ -1,9 +1,9 @@
 """Compares two arrangements of a function's blocks by a simultaneous search through both."""
-from __future__ import annotations
 
 from collections.abc import Sequence
 from dataclasses import dataclass
 
+from fptools.code.digraph import search
 from fptools.layout.assembly import INVERSE
 from fptools.layout.blocks import Block, Branch
 
@@ -67,15 +67,12 @@ def do_the_same(before: Sequence[Block], after: Sequence[Block]) -> bool:
         return False
     both = one.at.keys() & other.at.keys()
     starts = [(0, 0), *((one.at[label], other.at[label]) for label in both)]
-    ahead = [(one.settled(a), other.settled(b)) for a, b in starts]
-    seen = set(ahead)
-    while ahead:
-        onward = _onward(one, other, *ahead.pop())
+    pairs = ((one.settled(a), other.settled(b)) for a, b in starts)
+    onward: list[tuple[Place, Place]] | None = []
+    for pair in search(pairs, lambda _: onward or ()):
+        onward = _onward(one, other, *pair)
         if onward is None:
             return False
-        new = [pair for pair in onward if pair not in seen]
-        seen.update(new)
-        ahead += new
     return True
 
 

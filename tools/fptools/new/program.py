@@ -1,6 +1,5 @@
 """The files of a new program: sources, Makefile, linker script, setup and budgets. They are those
 of examples/c, with the program's own name, threads and size."""
-from __future__ import annotations
 
 import re
 from collections.abc import Mapping

@@ -7,7 +7,7 @@ from typing import Any, Iterable
 
 from fptools.program.answers import Bound, NoAnswer
 from fptools.budget.files import Budget, LoopFact
-from fptools.budget.budgets import Asked, Judge, Unknown
+from fptools.budget.judge import Asked, Judge, Unknown
 from fptools.files.image import write_image
 from fptools.flow.inference import StatedLoop
 from fptools.budget.names import MOST_LOOPS, Names, toml_of

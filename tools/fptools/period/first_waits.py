@@ -5,7 +5,7 @@ from __future__ import annotations
 from dataclasses import dataclass, field
 from enum import IntEnum
 
-from fptools.budget.budgets import Unknown
+from fptools.budget.judge import Unknown
 from fptools.period.moment_values import Absolute, Behind, Moment, Unclear
 from fptools.period.moments import Moments
 from fptools.period.bounds import PathBounds

@@ -5,7 +5,7 @@ which is looked at once nothing else changes."""
 from __future__ import annotations
 
 from dataclasses import dataclass, field, replace
-from typing import Sequence, Union
+from typing import Iterable, Sequence, Union
 
 from fptools.period.branch_values import Facts, joined_value
 
@@ -47,6 +47,8 @@ class Head:
     guesses: dict[Key, Guess] = field(default_factory=dict)
     tries: dict[Key, int] = field(default_factory=dict)
     renewals: int = 0
+    # Of values that are equal, by one number at first and the same in all rounds: the first one.
+    leaders: dict[Key, Key] = field(default_factory=dict)
 
     @property
     def counter(self) -> Counter:
@@ -66,6 +68,7 @@ class Head:
         """What is known at the head."""
         first = self.entered_with(entered)
         whole = joined([first, *backs], lambda key: (self.place, "round", key))
+        self._lead(whole.keys, first, backs)
         for key in whole.keys:
             guess = self.guesses.get(key)
             if isinstance(guess, Adds) and not guess.is_of(first.value(key)):
@@ -76,6 +79,15 @@ class Head:
         values = {key: self._value(key, first.value(key)) for key in whole.keys}
         fill(values, [first, *backs], Classes(lambda key: (self.place, "round", key)))
         return whole.with_values({key: it for key, it in values.items() if it is not None})
+
+    def _lead(self, keys: Iterable[Key], first: State, backs: Sequence[State]) -> None:
+        """Finds the values that have one number at first, and then the same by what rounds bring back."""
+        found: dict[tuple[int, tuple[Known, ...]], Key] = {}
+        for key in keys:
+            number = number_of(first.value(key))
+            if number is not None:
+                rounds = tuple(it.value(key) for it in backs)
+                self.leaders[key] = found.setdefault((number, rounds), key)
 
     def _look_at(self, key: Key, first: State, back: State) -> None:
         """Guesses a value by what a round brings back, if the loop isn't entered with that."""
@@ -113,7 +125,7 @@ class Head:
         """What the loop is entered with as a symbol, also where it is a number."""
         known = sum_of(first)
         if known is not None:
-            return Linear(At(self.place, key, known))
+            return Linear(At(self.place, self.leaders.get(key, key), known))
         return first if isinstance(first, Linear) else None
 
     def _value(self, key: Key, first: Known) -> Known | None:

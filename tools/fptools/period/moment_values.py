@@ -83,6 +83,13 @@ class Carry:
     added: int
     plus: int = 0
 
+    @property
+    def complement(self) -> Carry:
+        """1 less the carry, less the number. Where x is the sum of the value and n, the carry is x < n; so 1 less
+        the carry is x >= n, which is the carry where 2^32 - n is added to x."""
+        offset = (self.offset + self.added) % LOW
+        return Carry(self.origin, offset, LOW - self.added, -self.plus % LOW)
+
 
 Known = Union[Linear, High, Carry]
 MOMENT = "the moment of the wait before"
@@ -259,12 +266,17 @@ def calculated(word: Word, registers: tuple[Known, ...]) -> Known | None:
         return _difference(one, other) if is_minus else added(one, other)
     if word.funct3 in SHIFTS and word.opcode == OPCODE_IMMEDIATE:
         return one if not word.rs2 else None
+    if word.funct3 == XOR and number_of(other) == 1 and isinstance(one, Carry) and not one.plus:
+        return one.complement
     if word.funct3 in (XOR, OR):
         return one if number_of(other) == 0 else other if number_of(one) == 0 else None
     return carry(one, other) if word.funct3 == SLTU and not is_minus else None
 
 
 def _difference(one: Known, other: Known) -> Known | None:
+    if isinstance(other, Carry):
+        less = other.complement
+        return added(one, replace(less, plus=(less.plus - 1) % LOW))
     if not isinstance(other, Linear):
         return None
     if isinstance(one, Linear) and one.origin == other.origin:
@@ -297,7 +309,11 @@ def added(one: Known, other: Known) -> Known | None:
 
 def carry(one: Known, other: Known) -> Known | None:
     """Whether a value is less than another one: the carry where it is the sum of that and a number,
-    or of it as the number and a value."""
+    or of it as the number and a value. A carry itself is compared with 0 or 1."""
+    if isinstance(other, Carry) and not other.plus and number_of(one) == 0:
+        return other
+    if isinstance(one, Carry) and not one.plus and number_of(other) == 1:
+        return one.complement
     if not (isinstance(one, Linear) and isinstance(other, Linear)):
         return None
     a, b = number_of(one), number_of(other)
@@ -311,4 +327,7 @@ def carry(one: Known, other: Known) -> Known | None:
         return Carry(one.origin, other.offset, step) if step else number(0)
     if one.origin is not None and b is not None:
         return Carry(one.origin, (one.offset - b) % LOW, b) if b else number(0)
+    if other.origin is not None and a is not None:
+        # a < x is x >= a + 1, the carry where 2^32 - (a + 1) is added to x.
+        return Carry(other.origin, other.offset, LOW - a - 1) if a != LOW - 1 else number(0)
     return None

@@ -1,7 +1,7 @@
 """The period of a loop that waits: the most cycles from the moment of a wait to the issue of the
 next wait.
 
-docs/BOUNDS.md derives it. A wait that issues in a cycle c has moment m. The next instruction
+docs/dev/PERIODS.md derives it. A wait that issues in a cycle c has moment m. The next instruction
 issues no later than if the wait were a jump that issues at m, or at c if that is later. So the
 bound of the paths to the next waits, with a jump in place of the first wait, holds from there
 on."""
@@ -14,7 +14,7 @@ from pathlib import Path
 from typing import Sequence
 
 from fptools.budget.files import Assumption, Budget, PeriodOf, Result, Verdict
-from fptools.budget.budgets import Asked, Judge, Unknown
+from fptools.budget.judge import Asked, Judge, Unknown
 from fptools.files.elf import ProgramError, other_word
 from fptools.period.first_waits import FirstWaits, Timely
 from fptools.code.kept import Called
@@ -284,6 +284,8 @@ class Periods:
                 it.may_trap or it.traps_by_intent for it in self.thread.without_traps.words.values()
             )
         back = sorted(self.thread.comes_back_to(words), key=lambda it: not it.is_meant)
+        if not back or not back[0].is_meant:
+            asked.notes += [f"assumes {it}" for it in self.judge.trusted_handlers(self.thread)]
         if not back:
             return True
         armed = f"; {self.judge.where(expiry.pc)}: an EE" if expiry else ""

@@ -5,6 +5,7 @@ import heapq
 from dataclasses import dataclass, field
 from typing import Callable, Mapping
 
+from fptools.code.digraph import search
 from fptools.period.branch_values import carried, equal, relation
 from fptools.period.heads import Head
 from fptools.period.moment_values import LOW, TWICE, sum_of
@@ -189,14 +190,4 @@ def passes(unfolded: Unfolded, ring: Ring, place: Place) -> bool:
     inner = unfolded.graph.subgraph(ring.body - {place})
     if ring.head == place:
         return True
-    ahead, seen = [ring.head], set[Place]()
-    while ahead:
-        at = ahead.pop()
-        if at in seen:
-            continue
-        seen.add(at)
-        onward = list(inner[at])
-        if ring.head in onward:
-            return False
-        ahead += onward
-    return True
+    return all(ring.head not in inner[it] for it in search([ring.head], inner.__getitem__))

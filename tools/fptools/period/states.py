@@ -48,6 +48,10 @@ class State:
         one, other = number_of(before), number_of(after)
         if one is None or other is None:
             return replace(self, memory={})
+        if one == 0:  # as at the reset: no frame is there but what a function saved
+            return replace(
+                self, memory={at: it for at, it in self.memory.items() if not it.is_saved}
+            )
         return replace(
             self, memory={at: it for at, it in self.memory.items() if not one <= at < other}
         )

@@ -9,7 +9,7 @@ from dataclasses import dataclass, field
 from functools import cached_property
 from typing import Collection, NamedTuple
 
-from fptools.code.digraph import Graph
+from fptools.code.digraph import Graph, search
 from fptools.code.unfolded import Place, Step, Unfolded, is_wait
 from fptools.isa.words import Flow, Word
 
@@ -39,18 +39,9 @@ class Paths:
 
     def __post_init__(self) -> None:
         self.graph.add_node(self.first)
-        seen: set[Node] = set()
-        ahead = [self.first]
-        while ahead:
-            node = ahead.pop()
-            if node in seen:
-                continue
-            seen.add(node)
-            if self.is_end(node):
-                continue
-            for to in self._next(node):
+        for node in search([self.first], self.graph.__getitem__):
+            for to in () if self.is_end(node) else self._next(node):
                 self.graph.add_edge(node, to)
-                ahead.append(to)
 
     @cached_property
     def _heads(self) -> dict[Place, tuple[int, frozenset[Place]]]:

@@ -8,7 +8,6 @@
         print(answer.cycles)
 
 docs/COMMANDS.md has the codes and names of refusals."""
-from __future__ import annotations
 
 import re
 from dataclasses import dataclass

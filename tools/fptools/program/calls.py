@@ -1,7 +1,9 @@
 """Calls of the program, or of a script that calls it."""
 from __future__ import annotations
 
+import errno
 import os
+import shutil
 import subprocess
 import sys
 from dataclasses import dataclass, field
@@ -12,6 +14,21 @@ from fptools.program.answers import Bound, NoAnswer, Refusal, read_answer
 
 BESIDE = TOP / "flexpret"
 HELP = "the program; if left out, what the variable FLEXPRET names, or the ./flexpret of this repository"
+BUILT = (
+    "`./flexpret selfrun 1` in a checkout builds it: name that ./flexpret by FLEXPRET or --flexpret"
+)
+MODELLED = "FLEXPRET=fp_model answers by the model in Python, and nothing of that is proved"
+
+
+class NoProgram(OSError):
+    """There is no program by this name."""
+
+
+def look_for(name: str, what: str, cure: str) -> None:
+    """Raises `NoProgram`, with the cure, where no program has a name."""
+    if shutil.which(name) is None:
+        why = os.strerror(errno.EACCES if os.path.exists(name) else errno.ENOENT)
+        raise NoProgram(f"{what} {name}: {why}: {cure}")
 
 
 class RunFailed(Exception):
@@ -59,13 +76,23 @@ class Flexpret:
     )  # lines of standard error
 
     @classmethod
-    def named(cls, path: str | None) -> Flexpret:
-        return cls(
+    def named(cls, path: str | None, is_needed: bool = True) -> Flexpret:
+        """The program of an option, else of the variable, else of this repository. Raises `NoProgram`."""
+        name = (
             path or os.environ.get("FLEXPRET") or (str(BESIDE) if BESIDE.is_file() else "flexpret")
         )
+        found = cls(name)
+        if is_needed:
+            found.look()
+        return found
+
+    def look(self) -> None:
+        """Raises `NoProgram` where there is none by the name."""
+        look_for(self.path, "the program", f"{BUILT}. {MODELLED}")
 
     def ask(self, *words: str) -> Answer:
         """The answer to a command. What standard error says besides an answer is handed on, each line once."""
+        self.look()
         ran = subprocess.run([self.path, *words], capture_output=True, text=True, check=False)
         answer = Answer(ran.returncode, ran.stdout.strip(), ran.stderr.strip())
         if answer.status == 0:

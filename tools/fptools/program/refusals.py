@@ -1,6 +1,5 @@
 """Explains the refusal lines of the program: the place, by symbol and line, and what to do. docs/COMMANDS.md
 has the tables. Only the names of an executable need a package beyond Python itself."""
-from __future__ import annotations
 
 import re
 from dataclasses import dataclass, field

@@ -1,5 +1,4 @@
 """The content of a report: budgets with their bounds and runs, and the window of the timeline."""
-from __future__ import annotations
 
 import hashlib
 from dataclasses import dataclass
@@ -8,14 +7,14 @@ from typing import Mapping, Sequence
 
 from fptools.budget.files import Budget, Result
 from fptools.budget.runs import Compared, Runs
-from fptools.budget.budgets import Judge
+from fptools.budget.judge import Judge
 from fptools.isa.disassembly import Disassembler, find_tool
 from fptools.files.elf import Program, other_word
 from fptools.report.issues import Span, Spot, read_issues, spots_of
 from fptools.report.timeline import MOST_WINDOW, Painter, Timeline
 from fptools.files.image import read_image
 from fptools.visits.observed import Observation
-from fptools.budget.judged import judged
+from fptools.budget.results import judged
 from fptools.program.calls import Flexpret
 from fptools.files.setup import Setup
 from fptools.view.events import Columns

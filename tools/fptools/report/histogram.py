@@ -1,5 +1,4 @@
 """How long the executions of a section took, as bars."""
-from __future__ import annotations
 
 from dataclasses import dataclass
 

@@ -1,5 +1,4 @@
 """The issues of threads in parts of a run, and where they spent their cycles."""
-from __future__ import annotations
 
 from bisect import bisect_left
 from dataclasses import dataclass

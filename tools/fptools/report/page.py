@@ -3,7 +3,6 @@
 The pictures are inline SVG by jinja2 and a script of the page's own: the script of Debian 12's
 python3-plotly has 8.7 MB, more than a page may have, and Vega comes without Vega-Lite, which Altair
 needs."""
-from __future__ import annotations
 
 import hashlib
 from collections import defaultdict

@@ -1,5 +1,4 @@
 """A setup as a picture: the owners of slots and regions, and the image's content in them."""
-from __future__ import annotations
 
 from dataclasses import dataclass
 from typing import Mapping, Sequence

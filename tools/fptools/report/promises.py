@@ -1,5 +1,4 @@
 """The proved and the unproved statements, in the text of docs/ASSUMPTIONS.md, which a test compares."""
-from __future__ import annotations
 
 PROVED = (
     (

@@ -1,5 +1,4 @@
 """The issues of all threads in a window of a run, as the timeline draws them."""
-from __future__ import annotations
 
 from collections import defaultdict
 from dataclasses import dataclass

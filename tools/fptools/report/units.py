@@ -1,5 +1,4 @@
 """Numbers with their units, as the page writes them."""
-from __future__ import annotations
 
 UNITS = ((1_000_000_000, "s"), (1_000_000, "ms"), (1_000, "µs"))
 """Units of time by their nanoseconds."""

@@ -56,6 +56,10 @@ class UnknownStack(Exception):
         self.pc = pc
 
 
+class SharedStack(UnknownStack):
+    """A stack to which other threads may store."""
+
+
 @dataclass(frozen=True)
 class Known:
     """What is known before a word: of registers, and which saved registers the frame has, by their
@@ -127,7 +131,7 @@ def access_of(word: Word, known: Known) -> tuple[Value, int] | None:
     if not word.is_code or word.opcode not in (OPCODE_LOAD, OPCODE_STORE):
         return None
     base = known.registers[word.rs1]
-    by = word.immediate if word.opcode == OPCODE_LOAD else store_offset(word)
+    by = word.immediate if word.opcode == OPCODE_LOAD else word.store_offset
     return Value(base.origin, signed(base.offset + by)), SIZES[word.funct3]
 
 
@@ -136,11 +140,6 @@ def is_half(code: Code, word: Word) -> bool:
     then = code.word(word.next)
     adds = then.opcode == OPCODE_IMMEDIATE and then.funct3 == 0 and then.rd == then.rs1 == SP
     return word.opcode in (OPCODE_AUIPC, OPCODE_LUI) and word.rd == SP and adds
-
-
-def store_offset(word: Word) -> int:
-    """The number of a store: of its upper bits and of those where others have rd."""
-    return (word.field(25, 7) << 5 | word.rd) - (word.field(31, 1) << 12)
 
 
 class Reader:

@@ -7,7 +7,7 @@ from typing import Collection, Iterable, Mapping
 from fptools.files.elf import Program
 from fptools.files.setup import REGIONS, Setup
 from fptools.limits import DATA_START, LARGE
-from fptools.stack.flow import UnknownStack
+from fptools.stack.flow import SharedStack
 
 ALLOCATED = 2  # the flag of a section that takes room in memory
 OF_STACKS = "stack"
@@ -82,7 +82,7 @@ def room_of(setup: Setup, thread: int, top: int, data: Iterable[Data]) -> Room:
     at = (top - 1 - DATA_START) // size
     owner = owners[at] if 0 <= at < REGIONS else None
     if owner == "shared":
-        raise UnknownStack(
+        raise SharedStack(
             top, f"the stack begins at {top:#x}, in a shared region: other threads may store there"
         )
     if owner != own:

@@ -17,10 +17,10 @@ from typing import Mapping
 from fptools.budget.files import Verdict
 from fptools.files.elf import Program, other_word
 from fptools.files.setup import Setup, ThreadTable
-from fptools.stack.depths import Depth
-from fptools.stack.flow import SP, UnknownStack, is_half
+from fptools.stack.function_depths import Depth
+from fptools.stack.flow import SP, SharedStack, UnknownStack, is_half
 from fptools.stack.room import Data, data_of, is_data, is_outside, room_of
-from fptools.stack.threads import Deepest, deepest_of
+from fptools.stack.thread_depths import Deepest, deepest_of
 from fptools.code.thread import Code, ThreadCode, entries_of
 from fptools.isa.words import (
     OPCODE_AUIPC,
@@ -60,6 +60,7 @@ class Stack:
     top: int | None = None
     frames: tuple[Frame, ...] = ()
     notes: tuple[str, ...] = ()
+    is_shared: bool = False  # whether other threads may store there
 
     @property
     def shown(self) -> str:
@@ -106,7 +107,8 @@ class Stacks:
         except UnknownStack as why:
             if not self._is_used(table):
                 return Stack(table.id, Verdict.HOLDS, NO_STACK, 0)
-            return Stack(table.id, Verdict.UNKNOWN, f"{self.where(why.pc)}: {why}")
+            text, is_shared = f"{self.where(why.pc)}: {why}", isinstance(why, SharedStack)
+            return Stack(table.id, Verdict.UNKNOWN, text, is_shared=is_shared)
 
     def _is_used(self, table: ThreadTable) -> bool:
         """Whether a word that the thread may issue uses sp as an address, or sets it to one of

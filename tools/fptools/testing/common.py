@@ -1,5 +1,4 @@
 """What the tests share: the folder of the repository, the program, and runs of a tool."""
-from __future__ import annotations
 
 import os
 import shlex

@@ -2,7 +2,6 @@
 
 It shares no code with the tools and the model. Its loops are natural loops (edges back to a dominator), which the tools
 and the model don't use."""
-from __future__ import annotations
 
 from collections.abc import Collection, Mapping
 from dataclasses import dataclass, field

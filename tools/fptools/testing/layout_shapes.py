@@ -1,7 +1,6 @@
 """Compiles the shapes in data/layout, in the compiler's order and laid out, and measures them.
 
 For each there are the independent check, the model's refusal and bound, and the longest of many executions."""
-from __future__ import annotations
 
 import subprocess
 from collections.abc import Iterable, Sequence

@@ -1,5 +1,4 @@
 """The bounds of all loops of an executable, each function by itself."""
-from __future__ import annotations
 
 from collections.abc import Iterator
 from dataclasses import dataclass

@@ -1,6 +1,5 @@
 """Builds C with loop marks in many ways, runs it, and compares the bounds of its loops with what
 the run counts."""
-from __future__ import annotations
 
 import subprocess
 from collections.abc import Sequence

@@ -1,5 +1,4 @@
 """Writes random C with loop marks. A run on the host counts what each claim may state."""
-from __future__ import annotations
 
 import random
 from collections.abc import Callable, Collection

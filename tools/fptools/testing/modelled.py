@@ -1,5 +1,4 @@
 """Runs of the executable model of this repository, for tests of tools that look at traces."""
-from __future__ import annotations
 
 import subprocess
 import sys

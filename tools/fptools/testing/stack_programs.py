@@ -1,6 +1,5 @@
 """Programs of data/stack with their depth: by fp_stack, by a run, and by the compiler's
 -fstack-usage."""
-from __future__ import annotations
 
 import subprocess
 from dataclasses import dataclass

@@ -1,5 +1,4 @@
 """The cycle of an event, which a run of `flexpret` finds: an address, a trap, a store or a wait."""
-from __future__ import annotations
 
 import re
 from dataclasses import dataclass, field

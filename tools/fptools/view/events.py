@@ -1,6 +1,5 @@
 """Events of traces as they are shown: as columns, as JSON, as rows; with names, instructions and source
 lines."""
-from __future__ import annotations
 
 import csv
 import json

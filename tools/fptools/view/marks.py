@@ -1,5 +1,4 @@
 """The marks of a view: addresses, sections with their deadlines, and periods."""
-from __future__ import annotations
 
 import re
 from dataclasses import dataclass

@@ -1,5 +1,4 @@
 """The symbols and source lines of the turns of a view, by an executable or a map."""
-from __future__ import annotations
 
 from dataclasses import dataclass
 

@@ -1,7 +1,6 @@
 """A window as a picture: a row for each thread that is asked for, a column for each cycle.
 
 A column has 12 pixels times the zoom. With stages, a row has five lines, from F to W."""
-from __future__ import annotations
 
 from dataclasses import dataclass
 from typing import Iterator, Sequence
@@ -9,9 +8,8 @@ from typing import Iterator, Sequence
 from fptools.svg import picture, titled, written
 from fptools.view.marks import Mark, Passage, passages_of, periods_of, points_of
 from fptools.view.names import Names, cause_of
-from fptools.view.rows import STAGES, Row, Turn, period_of
+from fptools.view.rows import STAGES, Row, Turn
 
-MOST_CYCLES = 2000
 MOST_COLUMNS = 4000  # cycles times zoom
 MOST_ZOOM = 20
 COLUMN, LEFT, TIME_WIDTH, LEAST_WIDTH = 12, 52, 84, 640  # pixels, as all that follow
@@ -156,7 +154,7 @@ class Picture:
     def _sleeps(self) -> Iterator[str]:
         for row in self._rows:
             for thread in self._shape.threads:
-                if thread in row.asleep:
+                if row.state.threads[thread].asleep:
                     box = (self._x(row.cycle), self._y(thread), self._shape.column)
                     yield _box("z", *box, self._shape.cell + 2)
 
@@ -229,7 +227,7 @@ class Picture:
     # ------------------------------------------------------------ marks
 
     def _marked(self) -> Iterator[str]:
-        period = period_of(self._rows)
+        period = self._rows[0].period
         for number, at in periods_of(self._marks, self._rows[0].time, self._rows[-1].time + 1):
             title = f"{self._marks[number].text}: {at} ns"
             yield _path("p", self._x(at / period), 28, self._bottom, title)
@@ -261,12 +259,12 @@ class Picture:
 
     def _deadlines(self) -> Iterator[str]:
         """The moments that threads have armed, as far as they are in the window."""
-        period = period_of(self._rows)
+        first, last, period = self._rows[0].time, self._rows[-1].time, self._rows[0].period
         for thread in self._shape.threads:
-            for at in sorted({it for row in self._rows if (it := row.armed[thread]) is not None}):
-                if self._rows[0].time <= at <= self._rows[-1].time:
-                    top, title = self._y(thread), f"T{thread} has armed {at} ns"
-                    yield _path("e", self._x(at / period), top, top + self._shape.cell + 2, title)
+            armed = {row.state.threads[thread].armed for row in self._rows}
+            for at in sorted(it for it in armed if it is not None and first <= it <= last):
+                top, title = self._y(thread), f"T{thread} has armed {at} ns"
+                yield _path("e", self._x(at / period), top, top + self._shape.cell + 2, title)
 
 
 def _kind(turn: Turn) -> str:

@@ -1,4 +1,4 @@
-"""The cycles of a window, as the proved view gives them: its lines of text, and its dump."""
+"""The cycles of a window, read from the text of the proved view."""
 from __future__ import annotations
 
 import os
@@ -6,16 +6,19 @@ import re
 import subprocess
 import sys
 from dataclasses import dataclass
+from itertools import chain
 from pathlib import Path
-from typing import Iterator, Sequence
+from typing import Iterable, Iterator
 
-from fptools.program.calls import BESIDE
+from fptools.program.calls import BESIDE, look_for
 from fptools.files.trace import Event
 
 VIEW_BESIDE = BESIDE.with_name("flexpret-view")
 VIEW_HELP = (
     "the view; if left out, what the variable FLEXPRET_VIEW names, or the ./flexpret-view beside"
 )
+HEAD = "     cycle            ns slot  F  D  E  M  W  turn"
+BUILT = "`./flexpret-view turns examples/drive.toml --to 9` in a checkout builds it: name that ./flexpret-view by FLEXPRET_VIEW or --view"
 THREADS = range(8)
 STAGES = "FDEMW"
 BEFORE = len(STAGES) - 1  # cycles before a window whose turns are still in a stage of it
@@ -58,16 +61,34 @@ class Turn:
 
 
 @dataclass(frozen=True)
+class ThreadState:
+    """The state of a thread at the start of a cycle."""
+
+    asleep: bool = False
+    armed: int | None = None  # nanoseconds
+    latch: int | None = None  # of its port, if it has one
+    input: int = (1 << 32) - 1
+
+
+@dataclass(frozen=True)
+class State:
+    """The modes register, and the states of the threads, at the start of a cycle."""
+
+    modes: int = 0
+    threads: tuple[ThreadState, ...] = (ThreadState(),) * len(THREADS)
+
+
+@dataclass(frozen=True)
 class Row:
     """A cycle of a window."""
 
     cycle: int
-    time: int  # nanoseconds
+    time: int  # nanoseconds, as the period
     slot: str
     turn: Turn | None
     line: str  # as the view wrote it
-    asleep: frozenset[int] = frozenset()  # threads
-    armed: tuple[int | None, ...] = (None,) * len(THREADS)  # nanoseconds, by threads
+    state: State
+    period: int
 
 
 @dataclass(frozen=True)
@@ -76,54 +97,69 @@ class View:
 
     path: str
     setup: Path
+    progress: str = ""  # until when progress is shown on standard error: `before` or `all`
 
     @classmethod
     def named(cls, path: str | None, setup: Path) -> View:
-        return cls(path or os.environ.get("FLEXPRET_VIEW") or str(VIEW_BESIDE), setup)
+        """The view of an option, else of the variable, else of this repository. Raises `NoProgram`."""
+        name = path or os.environ.get("FLEXPRET_VIEW") or str(VIEW_BESIDE)
+        look_for(name, "the view", BUILT)
+        return cls(name, setup, "all" if sys.stderr.isatty() else "")
 
     def look(self) -> None:
         """Raises `ViewFailed` where the setup is refused or a file can't be read."""
-        self.ask(0, 1)
+        list(self.rows(0, 1))
 
-    def ask(self, first: int, end: int, form: str = "") -> str:
-        """The output of the view for a window: text, or another one of its forms."""
+    def rows(self, first: int, end: int) -> Iterator[Row]:
+        """The cycles of a window. Where the view refuses it, raises `ViewFailed` at once."""
+        rows = self._rows(first, end)
+        begin = next(rows, None)
+        return rows if begin is None else chain([begin], rows)
+
+    def _rows(self, first: int, end: int) -> Iterator[Row]:
         words = [self.path, "turns", str(self.setup), "--from", str(first), "--to", str(end)]
-        words += [f"--{form}", "-"] if form else []
-        # A terminal gets the view's standard error, and so the progress of a long run.
-        is_shown = sys.stderr.isatty()
-        words += ["--progress", "all"] if is_shown else []
-        errors = None if is_shown else subprocess.PIPE
-        ran = subprocess.run(words, stdout=subprocess.PIPE, stderr=errors, text=True, check=False)
+        words += ["--state", *(["--progress", self.progress] if self.progress else [])]
+        errors = None if self.progress else subprocess.PIPE
+        with subprocess.Popen(words, stdout=subprocess.PIPE, stderr=errors, text=True) as ran:
+            assert ran.stdout is not None
+            try:
+                said = ran.stdout.readline()
+                if said.startswith(HEAD):
+                    yield from rows_of(chain([said], ran.stdout))
+                    said = ""
+                output, complaint = ran.communicate()
+            except BaseException:
+                ran.kill()
+                raise
         if ran.returncode:
-            raise ViewFailed(ran.returncode, ran.stdout, ran.stderr or "")
-        return ran.stdout
-
-    def rows(self, first: int, end: int) -> list[Row]:
-        """The cycles of a window by the view's text."""
-        return [row_of(line) for line in self.ask(first, end).splitlines()[1:]]
-
-    def states(self, rows: Sequence[Row]) -> list[Row]:
-        """The same cycles with sleep and armed moments, from the view's dump."""
-        dump = self.ask(rows[0].cycle, rows[-1].cycle + 1, "vcd")
-        found = []
-        for row, values in zip(rows, values_of(dump)):
-            asleep = frozenset(k for k in THREADS if values[f"s{k}"] == "1")
-            armed = tuple(_number(values[f"a{k}"]) for k in THREADS)
-            found.append(Row(row.cycle, row.time, row.slot, row.turn, row.line, asleep, armed))
-        return found
+            raise ViewFailed(ran.returncode, said + output, complaint or "")
 
 
-def period_of(rows: Sequence[Row]) -> int:
-    """The nanoseconds of a cycle."""
-    row = rows[-1]
-    return row.time // row.cycle if row.cycle else 1
+def rows_of(lines: Iterable[str]) -> Iterator[Row]:
+    """The cycles of the view's text with states. A line without a state has that of the line before."""
+    left = iter(lines)
+    period, state = int(next(left).removeprefix(HEAD)), State()
+    for line in left:
+        line, tab, changed = line.rstrip("\n").partition("\t")
+        state = state_of(changed) if tab else state
+        cycle = int(line[CYCLE])
+        turn = turn_of(cycle, line[TURN])
+        yield Row(cycle, int(line[TIME]), line[SLOT].strip(), turn, line, state, period)
 
 
-def row_of(line: str) -> Row:
-    """A line of the view's text."""
-    cycle = int(line[CYCLE])
-    turn = turn_of(cycle, line[TURN])
-    return Row(cycle, int(line[TIME]), line[SLOT].strip(), turn, line)
+def state_of(text: str) -> State:
+    """A state by its text."""
+    modes, *threads = text.split()
+    return State(int(modes, 16), tuple(map(_thread_state, threads)))
+
+
+def _thread_state(text: str) -> ThreadState:
+    asleep, armed, latch, shown = text.split(",")
+    return ThreadState(asleep == "1", _known(armed, 10), _known(latch, 16), int(shown, 16))
+
+
+def _known(text: str, base: int) -> int | None:
+    return None if text == "-" else int(text, base)
 
 
 def turn_of(cycle: int, text: str) -> Turn | None:
@@ -135,35 +171,3 @@ def turn_of(cycle: int, text: str) -> Turn | None:
         return None
     event = Event(cycle, 0, int(issue[2], 16), int(issue[3], 16), issue[5])
     return Turn(int(issue[1]), False, event, issue[4].rstrip())
-
-
-def values_of(dump: str) -> Iterator[dict[str, str]]:
-    """The values of a dump's signals by their letters, at each of its times but the last."""
-    known: dict[str, str] = {}
-    for _, lines in times_of(dump)[1][:-1]:
-        known = known | dict(map(change_of, lines))
-        yield known
-
-
-def times_of(dump: str) -> tuple[list[str], list[tuple[int, list[str]]]]:
-    """The declarations of a dump, and the changes at each of its times, in nanoseconds."""
-    declared, _, body = dump.partition("$enddefinitions $end\n")
-    times: list[tuple[int, list[str]]] = []
-    for line in body.splitlines():
-        if line[0] == "#":
-            times.append((int(line[1:]), []))
-        else:
-            times[-1][1].append(line)
-    return declared.splitlines(), times
-
-
-def change_of(line: str) -> tuple[str, str]:
-    """The letters of a signal that changes, and its value."""
-    if line[0] in "bs":
-        value, _, letters = line[1:].partition(" ")
-        return letters, value
-    return line[1:], line[0]
-
-
-def _number(bits: str) -> int | None:
-    return None if bits == "z" else int(bits, 2)

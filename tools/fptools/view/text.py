@@ -1,30 +1,22 @@
 """A window as text: the lines of the view, with names, source lines and marks behind them."""
-from __future__ import annotations
 
 from collections import defaultdict
-from typing import Collection, Iterator, Mapping, Sequence
+from typing import Collection, Iterator, Sequence
 
 from fptools.view.marks import Mark, Passage, passages_of, periods_of, points_of
 from fptools.view.names import Names, cause_of
-from fptools.view.rows import Row, period_of
+from fptools.view.rows import HEAD, Row
 
-HEAD = "     cycle            ns slot  F  D  E  M  W  turn"
 WIDTH = 110  # columns up to the names: of a turn with each effect but two writes
 AT_WIDTH = 22
 
 
 def text_of(
     rows: Sequence[Row], threads: Collection[int], marks: Sequence[Mark], names: Names
-) -> str:
+) -> Iterator[str]:
     """The lines of the cycles in which a turn of the threads begins, or something is marked."""
     notes = notes_of(marks, rows, threads)
-    head = f"{HEAD:<{WIDTH}} {'at':<{AT_WIDTH}} source" if names.is_known else HEAD
-    return "".join(f"{line}\n" for line in [head, *_lines(rows, threads, notes, names)])
-
-
-def _lines(
-    rows: Sequence[Row], threads: Collection[int], notes: Mapping[int, list[str]], names: Names
-) -> Iterator[str]:
+    yield f"{HEAD:<{WIDTH}} {'at':<{AT_WIDTH}} source" if names.is_known else HEAD
     for row in rows:
         turn = row.turn if row.turn is not None and row.turn.thread in threads else None
         if turn is None and len(threads) < 8 and row.cycle not in notes:
@@ -49,7 +41,7 @@ def notes_of(
         if passage.thread in threads:
             _take(notes, passage, marks[passage.mark], rows)
     for number, at in periods_of(marks, rows[0].time, rows[-1].time + 1):
-        notes[-(-at // period_of(rows))].append(f"-- {marks[number].text}: {at} ns")
+        notes[-(-at // rows[0].period)].append(f"-- {marks[number].text}: {at} ns")
     return notes
 
 

@@ -367,6 +367,7 @@ class _Tailed:
 @contextmanager
 def opened_run(flexpret: Flexpret, setup: Path, thread: int, cycles: int) -> Iterator[Source]:
     """The trace of a run, as the program writes it. A refusal, and a run that fails, are `RunFailed`."""
+    flexpret.look()
     words = [flexpret.path, "run", str(setup), "--thread", str(thread), "--cycles", str(cycles)]
     with tempfile.TemporaryFile() as errors:
         with subprocess.Popen(words, stdout=subprocess.PIPE, stderr=errors) as ran:

@@ -223,6 +223,40 @@ def test_sections_by_labels_of_a_map(tool: Tool, tmp_path: Path) -> None:
     assert "loop:sum+0x18" in ran.stdout and "0x24 to 0x34 sum" in ran.stdout
 
 
+def test_a_map_is_compared_with_the_image(tool: Tool, tmp_path: Path) -> None:
+    """A map of another source is refused. If the source is gone or has changed, this is reported."""
+    names = {it: tmp_path / f"{it}.map" for it in ("sum", "drive")}
+    for name, path in names.items():
+        files = f"examples/{name}.s", f"examples/{name}.fpx"
+        assert tool("fp_asm", *files, "--map", path).returncode == 0
+    words = ("--setup", "examples/sum.toml")
+    ran = tool("fp_addresses", *words, "--map", names["sum"], "loop")
+    assert (ran.returncode, ran.stderr) == (0, "")
+    text = f"{names['drive']} is the map of "
+    for asked in (
+        ("fp_addresses", *words, "loop"),
+        ("fp_visits", "examples/sum.trace", *words, "--section", "0:8", "--flexpret", "/bin/true"),
+        ("fp_trace", "examples/sum.trace", *words),
+        ("fp_disasm", "examples/sum.fpx"),
+    ):
+        ran = tool(*asked, "--map", names["drive"])
+        assert (ran.returncode, ran.stdout) == (2, ""), asked
+        assert text in ran.stderr and "has other words" in ran.stderr, ran.stderr
+    source, own = tmp_path / "own.s", tmp_path / "own.map"
+    source.write_bytes((TOP / "examples/sum.s").read_bytes())
+    assert tool("fp_asm", source, "examples/sum.fpx", "--map", own).returncode == 0
+    for text, why in (("nop\n", "has changed since the map was written"), ("nopp\n", ":1: UnknownName"), ("", "No such file")):  # fmt: skip
+        source.write_text(text)
+        if not text:
+            source.unlink()
+        ran = tool("fp_addresses", *words, "--map", own, "loop")
+        assert ran.returncode == 0 and "can't be compared: " in ran.stderr and why in ran.stderr
+    source.write_bytes((TOP / "examples/sum.s").read_bytes())
+    own.write_text(own.read_text().replace("loop", "pool"))
+    ran = tool("fp_addresses", *words, "--map", own, "0")
+    assert ran.returncode == 2 and f"{own} isn't the map of {source}" in ran.stderr
+
+
 def test_a_reader_that_stops_early_is_no_fault() -> None:
     ran = subprocess.run(
         "tools/fp_disasm examples/c/pid.fpx | head -1",

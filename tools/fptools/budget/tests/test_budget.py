@@ -8,7 +8,7 @@ from xml.etree import ElementTree
 
 import pytest
 from fptools.testing.common import TOP, Tool
-from fptools.budget.budgets import HELP, Budget, Judge, Verdict
+from fptools.budget.judge import HELP, Budget, Judge, Verdict
 from fptools.files.elf import Function, Program
 from fptools.files.image import read_image
 from fptools.program.calls import Flexpret
@@ -310,6 +310,15 @@ def test_a_junit_file_that_cannot_be_written(asking: Tool, tmp_path: Path, name:
     assert lines[0].startswith(f"fp_budget: {out} can't be written: ")
 
 
+def test_a_junit_file_that_the_call_reads_stays(asking: Tool, tmp_path: Path) -> None:
+    out = tmp_path / "budgets.toml"
+    words = (*PID, "--junit", str(tmp_path / "." / out.name))
+    status, lines = judged(asking, tmp_path, words, f"{STEP}cycles = 352")
+    why = f"fp_budget: {out} can't be written: this call reads it: give another name"
+    assert (status, lines) == (2, [why])
+    assert out.read_text().startswith("[[budget]]")
+
+
 def test_a_name_that_standard_output_cannot_take(asking: Tool, tmp_path: Path) -> None:
     asking.environment["PYTHONIOENCODING"] = "ascii"
     table = STEP.replace('"step"', '"étape"') + "cycles = 352"
@@ -397,6 +406,47 @@ def test_a_file_that_is_no_toml_is_named(asking: Tool, tmp_path: Path) -> None:
     for files in ((faulty, "examples/c/budgets.toml"), ("examples/c/pid.toml", faulty)):
         ran = asking("fp_budget", *files, "--elf", "examples/c/pid.elf")
         assert (ran.returncode, ran.stderr) == (2, error)
+
+
+@pytest.mark.parametrize(
+    ("sign", "shown"),
+    [
+        ("\u202e", "U+202E (RIGHT-TO-LEFT OVERRIDE)"),
+        ("\u200b", "U+200B (ZERO WIDTH SPACE)"),
+        ("\\u0007", "U+0007 (a control character)"),
+        ("\\n", "U+000A (a control character)"),
+    ],
+)
+def test_a_name_that_is_not_shown_as_it_is(
+    asking: Tool, tmp_path: Path, sign: str, shown: str
+) -> None:
+    """Such a sign could hide or turn round what a line says. Other signs than those of ASCII are taken."""
+    budgets = tmp_path / "budgets.toml"
+    text = (TOP / "examples/c/budgets.toml").read_text()
+    budgets.write_text(text.replace('name = "', f'name = "a{sign}b ', 1), encoding="utf-8")
+    words = ("fp_budget", "examples/c/pid.toml", budgets, "--elf", "examples/c/pid.elf")
+    ran = asking(*words)
+    assert (ran.returncode, ran.stdout) == (2, "") and ran.stderr.count("\n") == 1
+    assert "budget[0].name: 'a" in ran.stderr and f"has {shown}" in ran.stderr
+    assert ran.stderr.endswith(": take it out\n") and ran.stderr.isascii()
+    budgets.write_text(text.replace('name = "', 'name = "Größe 测 ', 1), encoding="utf-8")
+    assert asking(*words).returncode == 0
+
+
+def test_no_program(tmp_path: Path) -> None:
+    """As for tools that pip installs: one line says what to build, and that the model answers too."""
+    tool = Tool(TOP, "no-such-program")
+    files = ("examples/c/pid.elf", "examples/c/budgets.toml", "--setup", "examples/c/pid.toml")
+    for words in (
+        ("fp_budget", *files),
+        ("fp_budget", *files, "--all"),
+        ("fp_report", *files[3:], files[1], "--elf", files[0], "-o", tmp_path / "report.html"),
+        ("fp_visits", "--setup", "examples/c/pid.toml", "--thread", "0", "--cycles", "9", "--section", "0:8"),
+    ):  # fmt: skip
+        ran = tool(*words)
+        assert (ran.returncode, ran.stdout) == (2, "") and ran.stderr.count("\n") == 1, words
+        assert "the program no-such-program: No such file or directory: `./flexpret" in ran.stderr
+        assert "FLEXPRET=fp_model" in ran.stderr
 
 
 def test_the_examples_of_budgets_are_read(asking: Tool) -> None:

@@ -31,9 +31,20 @@ def shown() -> list[tuple[str, list[str]]]:
     return [(command, "\n".join(lines).rstrip("\n").splitlines()) for command, lines in blocks]
 
 
-def test_each_command_writes_what_is_shown(flexpret: str, tmp_path: Path) -> None:
+def script_around(program: str, folder: Path) -> str:
+    """The script ./flexpret around a program, as tools call it by default."""
+    around = f'. {TOP}/examples/shown.bash; script_around "$1" "$2" "$3"'
+    subprocess.run(["bash", "-c", around, "bash", program, folder, TOP], check=True)
+    return str(folder / "flexpret")
+
+
+@pytest.mark.parametrize("is_script", [False, True], ids=["program", "script"])
+def test_each_command_writes_what_is_shown(flexpret: str, is_script: bool, tmp_path: Path) -> None:
     if find_tool() is None:
         pytest.skip("the page shows instructions by an objdump for RISC-V, and none is installed")
+    program = flexpret
+    if is_script:
+        flexpret = script_around(program, tmp_path / "script")
     for name, target in (
         ("tools", TOOLS),
         ("examples", TOP / "examples"),
@@ -52,6 +63,8 @@ def test_each_command_writes_what_is_shown(flexpret: str, tmp_path: Path) -> Non
     blocks = shown()
     assert len(blocks) == 10
     for command, lines in blocks:
+        # What is installed is the program, not a script.
+        environment["FLEXPRET"] = program if command.startswith("tools/install.sh") else flexpret
         ran = subprocess.run(
             ["bash", "-c", command],
             cwd=tmp_path,

@@ -244,7 +244,11 @@ def test_names_and_the_view_are_shown(
     labels = tmp_path / "drive.map"
     labels.write_text("# map of drive.s: address, line, labels\n00000014 9 keep\n")
     view = tmp_path / "view"
-    view.write_text('#!/bin/sh\necho "the view of $*"\n')
+    row = "        17           170 S     4  0  3  1  2  T4 00000104 ffdff06f jal x0, 0x00000100         -"
+    head = "     cycle            ns slot  F  D  E  M  W  turn"
+    view.write_text(
+        f"#!/bin/sh\necho \"$*\" > {tmp_path}/asked\nprintf '{head}\\t10\\n{row}\\t-\\n'\n"
+    )
     view.chmod(0o755)
     record = record_run(flexpret, tmp_path, "examples/drive.toml", 77)
     record.write_text(record.read_text().replace("\n24,1,0,", "\n24,0,0,"))
@@ -252,7 +256,9 @@ def test_names_and_the_view_are_shown(
     ran = asking("fp_record", record, *words)
     assert ran.returncode == 1
     assert "(keep)\n" in ran.stdout
-    assert "  the view of turns examples/drive.toml --from 16 --to 26\n" in ran.stdout
+    assert f"  {head}\n  {row}\n" in ran.stdout
+    asked = (tmp_path / "asked").read_text()
+    assert asked == "turns examples/drive.toml --from 16 --to 26 --state\n"
 
 
 def test_a_refused_setup_or_image_is_named(asking: Tool, flexpret: str, tmp_path: Path) -> None:

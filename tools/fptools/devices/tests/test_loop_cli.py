@@ -26,6 +26,16 @@ pytestmark = pytest.mark.skipif(
 SEEDS = range(20_000, 20_200)
 
 
+def call(setup: str, plants: object, thread: int, every: int, cycles: int) -> list[str]:
+    """The call of the program."""
+    options = {"plants": plants, "thread": thread, "every": every, "cycles": cycles}
+    return [
+        str(PROGRAM),
+        setup,
+        *(text for name, value in options.items() for text in (f"--{name}", str(value))),
+    ]
+
+
 def drawn_tables(chance: random.Random) -> dict[int, tuple[int, ...]]:
     """Tables of one to 16 words for some threads."""
     threads = [thread for thread in range(THREADS) if chance.random() < 0.7]
@@ -54,10 +64,8 @@ def test_a_trace_in_loops_with_tables(seed: int, tmp_path: Path) -> None:
     events = list(world.retired(drawn.cycles))
     for thread in range(THREADS):
         wanted = b"".join(event.line() for event in events if event.thread == thread)
-        numbers = [str(number) for number in (thread, every, drawn.cycles)]
-        ran = subprocess.run(
-            [PROGRAM, "a.toml", "plants.txt", *numbers], cwd=tmp_path, capture_output=True
-        )
+        words = call("a.toml", "plants.txt", thread, every, drawn.cycles)
+        ran = subprocess.run(words, cwd=tmp_path, capture_output=True)
         assert (ran.returncode, ran.stdout) == (0, wanted)
 
 
@@ -73,7 +81,7 @@ def little_memory() -> None:
 def test_a_long_run_takes_no_more_memory_than_a_short_one(tmp_path: Path) -> None:
     listed = tmp_path / "plants.txt"
     listed.write_text("".join(f"{thread} table 3 1 4 1 5\n" for thread in range(THREADS)))
-    words = [str(PROGRAM), "examples/loop/motor.toml", str(listed), "0", "1", "200000"]
+    words = call("examples/loop/motor.toml", listed, 0, 1, 200000)
     ran = subprocess.run(
         words, cwd=TOP, stdout=subprocess.DEVNULL, stderr=subprocess.PIPE, preexec_fn=little_memory
     )
@@ -101,10 +109,8 @@ def test_a_trace_with_recorded_words(seed: int, tmp_path: Path) -> None:
     events = list(world.retired(drawn.cycles))
     for thread in range(THREADS):
         wanted = b"".join(event.line() for event in events if event.thread == thread)
-        numbers = [str(number) for number in (thread, every, drawn.cycles)]
-        ran = subprocess.run(
-            [PROGRAM, "a.toml", "plants.txt", *numbers], cwd=tmp_path, capture_output=True
-        )
+        words = call("a.toml", "plants.txt", thread, every, drawn.cycles)
+        ran = subprocess.run(words, cwd=tmp_path, capture_output=True)
         assert (ran.returncode, ran.stdout) == (0, wanted)
 
 
@@ -116,7 +122,7 @@ def test_a_plant_at_the_pipe(tmp_path: Path) -> None:
     recorded.write_text(f"0 recorded {' '.join(map(str, answers))}\n")
 
     def ran(plants: Path, given: str) -> subprocess.CompletedProcess[str]:
-        words = [str(PROGRAM), "examples/loop/motor.toml", str(plants), "0", "100", "3000"]
+        words = call("examples/loop/motor.toml", plants, 0, 100, 3000)
         return subprocess.run(words, cwd=TOP, input=given, capture_output=True, text=True)
 
     live = ran(piped, "".join(f"{answer}\n" for answer in answers))
@@ -137,14 +143,7 @@ def test_a_plant_at_the_pipe(tmp_path: Path) -> None:
 )
 def test_a_plant_at_the_pipe_that_breaks_off(given: str, said: str, tmp_path: Path) -> None:
     (tmp_path / "piped.txt").write_text("0 pipe\n")
-    words = [
-        str(PROGRAM),
-        "examples/loop/motor.toml",
-        str(tmp_path / "piped.txt"),
-        "0",
-        "100",
-        "1000",
-    ]
+    words = call("examples/loop/motor.toml", tmp_path / "piped.txt", 0, 100, 1000)
     ran = subprocess.run(words, cwd=TOP, input=given, capture_output=True, text=True)
     assert (ran.returncode, ran.stderr.splitlines()[-1]) == (
         10,
@@ -153,26 +152,83 @@ def test_a_plant_at_the_pipe_that_breaks_off(given: str, said: str, tmp_path: Pa
 
 
 FAULT = (
-    "loop_cli: PLANTS has other lines than `THREAD body|motor STEPS`, `THREAD table|recorded WORD ..` and `THREAD pipe`, "
-    "or two of a thread, or two pipes\n"
+    "loop_cli: line {line} of the list isn't `THREAD body|motor STEPS`, `THREAD table|recorded WORD ..` or `THREAD pipe`, "
+    "or it is a second one of a thread, or a second pipe\n"
 )
 
 
 @pytest.mark.parametrize(
-    "plants",
-    ["0 body 3 4\n", "0 motor 3\n0 table 1\n", "8 motor 3\n", "0 table\n", "0 motor\n", "0 lamp 1\n", "0 motor 0x3\n",
-     "0 recorded\n", "0 recorded -1\n", "0 pipe 3\n", "0 pipe\n1 pipe\n"],
+    ("plants", "line"),
+    [("0 body 3 4\n", 1), ("0 motor 3\n0 table 1\n", 2), ("\n# a\n8 motor 3\n0 lamp 1\n", 3), ("0 table\n", 1), ("0 motor\n", 1),
+     ("0 lamp 1\n", 1), ("0 motor 0x3\n", 1), ("0 recorded\n", 1), ("0 recorded -1\n", 1), ("0 recorded 4294967296\n", 1),
+     ("0 pipe 3\n", 1), ("0 pipe\n1 motor 3\n\n2 pipe\n", 4), ("1 motor 3\n#0 motor 3\n", 2), ("0\n", 1)],
 )  # fmt: skip
-def test_a_list_that_is_refused(plants: str, tmp_path: Path) -> None:
+def test_a_list_that_is_refused(plants: str, line: int, tmp_path: Path) -> None:
     listed = tmp_path / "plants.txt"
     listed.write_text(plants)
-    words = [str(PROGRAM), "examples/loop/motor.toml", str(listed), "0", "100", "1000"]
+    words = call("examples/loop/motor.toml", listed, 0, 100, 1000)
     ran = subprocess.run(words, cwd=TOP, capture_output=True, text=True)
-    assert (ran.returncode, ran.stdout, ran.stderr) == (2, "", FAULT)
+    assert (ran.returncode, ran.stdout, ran.stderr) == (2, "", FAULT.format(line=line))
+
+
+def test_a_list_that_is_too_long(tmp_path: Path) -> None:
+    listed = tmp_path / "plants.txt"
+    listed.write_bytes(b"0 motor 3\n" + b"\n" * (64 << 20))
+    words = call("examples/loop/motor.toml", listed, 0, 100, 1000)
+    ran = subprocess.run(words, cwd=TOP, capture_output=True, text=True)
+    assert (ran.returncode, ran.stdout, ran.stderr) == (
+        2,
+        "",
+        "loop_cli: the list of plants has more than 64 megabytes\n",
+    )
+
+
+USAGE = "loop_cli: usage: loop_cli SETUP --plants FILE --thread i --every n --cycles n\n"
+
+
+@pytest.mark.parametrize(
+    "wrong",
+    [{"--thread": "8"}, {"--every": "0"}, {"--cycles": "4000000001"}, {"--cycles": "1e3"}, {"--plants": ""}, {"--turns": "1"}],
+)  # fmt: skip
+def test_arguments_that_give_no_run(wrong: dict[str, str]) -> None:
+    options = {
+        "--plants": "examples/loop/plants.txt",
+        "--thread": "0",
+        "--every": "100",
+        "--cycles": "1000",
+        **wrong,
+    }
+    words = [
+        str(PROGRAM),
+        "examples/loop/motor.toml",
+        *(text for pair in options.items() for text in pair),
+    ]
+    ran = subprocess.run(words, cwd=TOP, capture_output=True, text=True)
+    assert (ran.returncode, ran.stdout, ran.stderr) == (2, "", USAGE)
+
+
+def test_options_in_another_order_and_with_equals(tmp_path: Path) -> None:
+    words = [
+        "--cycles=1000",
+        "--every",
+        "100",
+        "examples/loop/motor.toml",
+        "--thread=0",
+        "--plants",
+        "examples/loop/plants.txt",
+    ]
+    ran = [
+        subprocess.run(it, cwd=TOP, capture_output=True, check=True).stdout
+        for it in (
+            [str(PROGRAM), *words],
+            call("examples/loop/motor.toml", "examples/loop/plants.txt", 0, 100, 1000),
+        )
+    ]
+    assert ran[0] == ran[1] and ran[0]
 
 
 def test_a_thread_without_a_plant_has_the_inputs_of_its_setup(tmp_path: Path) -> None:
     (tmp_path / "none.txt").write_text("")
-    setup = ["examples/drive.toml", str(tmp_path / "none.txt"), "0", "100", "77"]
-    ran = subprocess.run([PROGRAM, *setup], cwd=TOP, capture_output=True)
+    words = call("examples/drive.toml", tmp_path / "none.txt", 0, 100, 77)
+    ran = subprocess.run(words, cwd=TOP, capture_output=True)
     assert (ran.returncode, ran.stdout) == (0, (TOP / "examples/drive.trace").read_bytes())

@@ -42,7 +42,8 @@ def plant(code: str) -> list[str]:
 def proved(folder: Path, plants: str, cycles: int = CYCLES, every: int = EVERY) -> str:
     """The trace of the proved driver with a list of plants."""
     (folder / "plants.txt").write_text(plants)
-    call = [str(PROGRAM), SETUP, str(folder / "plants.txt"), "0", str(every), str(cycles)]
+    call = [str(PROGRAM), SETUP, "--plants", str(folder / "plants.txt")]
+    call += ["--thread", "0", "--every", str(every), "--cycles", str(cycles)]
     ran = subprocess.run(call, cwd=TOP, capture_output=True, text=True, check=True)
     return ran.stdout
 
@@ -223,9 +224,9 @@ def test_what_can_not_be_run(call: list[str], said: str, tool: Tool) -> None:
 @needs_program
 def test_a_list_with_a_second_plant_of_the_thread_is_refused(tool: Tool, tmp_path: Path) -> None:
     others = tmp_path / "others.txt"
-    others.write_text("0 body 100\n")
+    others.write_text("# motors\n0 body 100\n")
     ran = tool(*words("--plants", others), "cat")
-    assert ran.returncode == 2 and ran.stderr.startswith("fp_plant: PLANTS has other lines than")
+    assert ran.returncode == 2 and ran.stderr.startswith("fp_plant: line 2 of the list isn't")
 
 
 @pytest.mark.parametrize(
@@ -250,7 +251,7 @@ def test_the_program_is_built_once_by_the_script(tmp_path: Path) -> None:
     crates = checkout.folder / "crates.txt"
     crates.write_text(crates.read_text() + "loop_cli: middle\n")
     said = tmp_path / "said"
-    program = f'#!/bin/sh\necho "${{0##*/}} $3 $4 $5" >>{said}\nexit 9\n'
+    program = f'#!/bin/sh\necho "${{0##*/}} $4 $5 $6 $7 $8 $9" >>{said}\nexit 9\n'
     environment = {**checkout.environment, "RT_PROGRAM": program, "FLEXPRET_PROCESSORS": "1"}
     environment.pop("LOOP_CLI", None)
     call = [sys.executable, "tools/fp_plant", str(TOP / SETUP), *words()[2:], *plant(ECHO)]
@@ -262,7 +263,7 @@ def test_the_program_is_built_once_by_the_script(tmp_path: Path) -> None:
         )
         built = [it.split()[1] for it in checkout.log.read_text().splitlines() if "done" in it]
         assert (ran.returncode, sorted(built)) == (2, sorted(log)), ran.stderr
-    assert said.read_text() == "loop_cli 0 100 160000\n" * 2
+    assert said.read_text() == "loop_cli --thread 0 --every 100 --cycles 160000\n" * 2
 
 
 def test_a_program_that_cannot_be_built(tmp_path: Path) -> None:

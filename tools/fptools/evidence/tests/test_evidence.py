@@ -6,6 +6,7 @@ import html
 import json
 import os
 import re
+import shlex
 import subprocess
 import sys
 from pathlib import Path
@@ -91,12 +92,33 @@ def test_the_folder_is_whole_and_its_checksums_are_right(folder: Path) -> None:
 
 
 def test_the_same_input_gives_the_same_bytes(folder: Path, tmp_path: Path) -> None:
-    assert evidence(*PID, "-o", tmp_path / "pid", seed="7").returncode == 0
-    for name in ("definitions.txt", "sources.sha256", "inputs/setup.toml"):
-        assert (tmp_path / "pid" / name).read_bytes() == (folder / name).read_bytes()
-    for name in ("index.html", "evidence.json"):
-        again = (tmp_path / "pid" / name).read_text().replace(str(tmp_path / "pid"), str(folder))
-        assert again == (folder / name).read_text()
+    assert evidence(*PID, "-o", tmp_path / "other", seed="7").returncode == 0
+    names = [it.relative_to(folder) for it in folder.rglob("*") if it.is_file()]
+    for name in names:
+        assert (tmp_path / "other" / name).read_bytes() == (folder / name).read_bytes(), name
+
+
+def test_the_repeated_call_has_each_option_that_changes_the_page(tmp_path: Path) -> None:
+    words = (*PID, "--runs", 2000, "--title", "A title of two", "--src", "examples/c")
+    assert evidence(*words, "-o", tmp_path / "made").returncode == 0
+    text = plain((tmp_path / "made/index.html").read_text())
+    (call,) = re.findall(r"tools/fp_evidence .*? -o FOLDER", text)
+    assert shlex.split(call)[1:-2] == [
+        str(it) for it in (*PID, *words[5:7], *words[9:], *words[7:9])
+    ]
+
+
+def test_each_clause_is_a_piece_of_its_source_and_of_the_page(folder: Path) -> None:
+    """All clauses of all promises. Spaces count as one."""
+    text = plain((folder / "index.html").read_text())
+    number = 0
+    for promise in promises_of(read_data()):
+        for clause in promise.clauses:
+            quoted = " ".join(clause.text.split())
+            assert quoted in " ".join((TOP / clause.file).read_text().split()), clause
+            assert quoted in text, clause
+            number += 1
+    assert number >= 10
 
 
 def test_the_page_says_what_it_is_not_and_that_the_model_proves_nothing(folder: Path) -> None:

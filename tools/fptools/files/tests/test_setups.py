@@ -17,7 +17,7 @@ def rows() -> dict[str, tuple[str, str]]:
     """By its name, a row's setup and what is read of it: the first line, as `refused 7 BadSlot slots[3]`."""
     found = {}
     for row in (
-        (TOP / "crates/unit_rows/data/setups.txt").read_text(encoding="utf-8").split("=== ")[1:]
+        (TOP / "crates/test_units/data/setups.txt").read_text(encoding="utf-8").split("=== ")[1:]
     ):
         name, *lines = row.splitlines()
         end = next((at for at, line in enumerate(lines) if line.startswith("--- ")), len(lines))

@@ -8,7 +8,7 @@ from hypothesis import given
 from hypothesis import strategies as st
 from fptools.testing.common import TOP
 from fptools.isa.disassembly import timing_text
-from fptools.isa.instructions import BY_NAME, FORMS, decode, get, target
+from fptools.isa.encodings import BY_NAME, FORMS, decode, get, target
 from fptools.isa.words import Flow, Word
 
 from model import instructions as model
@@ -26,7 +26,7 @@ FLOWS = {
 
 
 def rows() -> list[tuple[Word, str, str]]:
-    found = map(ROW.match, (TOP / "crates/unit_rows/data/decode.txt").read_text().splitlines())
+    found = map(ROW.match, (TOP / "crates/test_units/data/decode.txt").read_text().splitlines())
     return [(Word(PC, int(it[1], 16)), it[2], it[3]) for it in found if it]
 
 

@@ -12,11 +12,12 @@ from pathlib import Path
 import pytest
 from fptools.testing.common import TOOLS, TOP
 from fptools.files.image import read_image
-from fptools.isa.instructions import edges, is_call
+from fptools.isa.encodings import edges, is_call
 from fptools.launch.bounds import ways_out
 from fptools.launch.plain_section import stays
 from fptools.program.status import NOT_BUILT
 from fptools.isa.words import Flow, Word
+from fptools.view.rows import HEAD
 from fptools.launch.tests.scripts import Checkout, RT, SELFRUN, TURNS, elf
 
 pytest_plugins = ["fptools.launch.tests.fixtures"]
@@ -102,7 +103,7 @@ def test_names_are_replaced_by_addresses(checkout: Checkout) -> None:
         "bound", "x.toml", "--thread", "0", "--from", "loop", "--to=loop+4", "--map", "m"
     )
     assert ran.stdout == "8:bound x.toml --thread 0 --from 0x00000010 --to 0x0000003c\n"
-    assert (checkout.folder / "tool").read_text() == "--map m loop loop+4\n"
+    assert (checkout.folder / "tool").read_text() == "--map m --setup x.toml loop loop+4\n"
     ran = checkout.run(
         "calls", "x.toml", "--thread", "0", "--from", "f", "--to", "g", "--elf", "x.elf"
     )
@@ -320,11 +321,9 @@ def test_an_answer_without_a_proof(
     assert asked[behind + 1 :] == [
         "check",
         "file1",
-        "--thread",
-        "0",
+        "--thread=0",
         "--cycles=9",
-        "--trace",
-        "file2",
+        "--trace=file2",
     ]
     assert [it.split("=")[0] for it in asked[:behind] if "=" in it] == ["file0", "file1"]
     assert not checkout.out.exists()
@@ -352,20 +351,19 @@ def test_a_view_without_a_proof_goes_to_its_file(tmp_path: Path) -> None:
     checkout = Checkout(tmp_path, "flexpret-view", "flexpret_view")
     (tmp_path / "said").write_text("run=ended status=0 runners=1 proved=no\n")
     rt = tmp_path / "bin/rt"
-    rt.write_text(RT.replace('cat "$RT_TRY"', 'echo a picture; cat "$RT_TRY"'))
-    words = ("turns", "x.toml", "--from", "0", "--to=9", "--svg", "x.svg", "--progress", "all")
+    (tmp_path / "text").write_text(f"{HEAD}\t10\n{0:>10} {0:>13} S     .  .  .  .  .  -\n")
+    rt.write_text(RT.replace('cat "$RT_TRY"', 'cat "${RT_TRY%/*}/text"; cat "$RT_TRY"'))
+    words = ("turns", "x.toml", "--from", "0", "--to=1", "--konata", "x.log", "--progress", "all")
     ran = checkout.run("--unproved", *words, RT_TRY=str(tmp_path / "said"))
     assert (ran.returncode, ran.stdout) == (0, "")
-    assert (tmp_path / "x.svg").read_text() == "a picture\n"
+    assert (tmp_path / "x.log").read_text() == "Kanata\t0004\nC=\t0\nC\t1\n"
     asked = checkout.log.with_suffix(".try").read_text().splitlines()
     assert asked[asked.index("--") + 1 :] == [
         "turns",
         "file0",
-        "--from",
-        "0",
-        "--to=9",
-        "--svg",
-        "-",
+        "--from=0",
+        "--to=1",
+        "--state",
     ]
 
 

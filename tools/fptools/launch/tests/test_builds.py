@@ -14,8 +14,9 @@ from pathlib import Path
 
 import pytest
 from fptools.testing.common import TOP
-from fptools.launch.build import Builder, Plan
-from fptools.launch.sources import Checkout as Sources
+from fptools.launch.build import Builder
+from fptools.launch.forecast import Plan
+from fptools.launch.up_to_date import Checkout as Sources
 from fptools.program.status import NOT_BUILT
 from fptools.launch.tests.scripts import CRATES, Checkout, PROGRAM, RT, SELFRUN
 
@@ -74,7 +75,7 @@ def test_the_longest_chain_comes_first(checkout: Checkout) -> None:
     (checkout.folder / "crates.txt").write_text("a:\nb:\nc: b\nflexpret_cli: a c\n")
     for name in ("a", "b", "c"):
         (checkout.folder / "crates" / name / "src").mkdir(parents=True)
-    command = "from fptools.launch.build import *; from pathlib import Path;"
+    command = "from fptools.launch.forecast import *; from pathlib import Path;"
     command += " plan = Plan(Checkout(Path('.'), 'flexpret_cli'), 1); print(max(plan.chain, key=plan.chain.get), plan.chain['c'] > plan.chain['flexpret_cli'])"
     ran = subprocess.run(
         [sys.executable, "-c", command],
@@ -97,11 +98,11 @@ def test_the_forecast_follows_the_load_and_proofs_that_take_longer(checkout: Che
     ):
         (checkout.folder / "crates" / name / "src/lib.rt").write_text(" " * size)
     command = """
-from fptools.launch import build
+from fptools.launch import forecast
 from pathlib import Path
 import time
-build.processors = lambda: 2
-def plan(load): return build.Plan(build.Checkout(Path('.'), 'flexpret_cli'), 2, load=load)
+forecast.processors = lambda: 2
+def plan(load): return forecast.Plan(forecast.Checkout(Path('.'), 'flexpret_cli'), 2, load=load)
 quiet, busy, slow, late = plan(0.0), plan(8.0), plan(0.0), plan(0.0)
 print(round(busy.left() / quiet.left(), 1))
 slow.done['low'] = 3 * slow.weight['low']
@@ -109,7 +110,7 @@ print(2 < slow.pace() < 3)
 late.running['flexpret_cli'] = time.monotonic() - 3000
 late.done = {it: late.weight[it] for it in ('low', 'beside', 'middle')}
 print(300 < late.left() < 700)
-shown = build.Progress('x', late, False); shown.terminal = False; shown.show()
+shown = forecast.Progress('x', late, False); shown.terminal = False; shown.show()
 """
     ran = subprocess.run(
         [sys.executable, "-c", command],
@@ -131,8 +132,8 @@ def test_a_shorter_chain_yields_the_processors(checkout: Checkout) -> None:
     for name, size in (("a", 20000), ("b", 100000), ("c", 100000)):
         (checkout.folder / "crates" / name / "src").mkdir(parents=True, exist_ok=True)
         (checkout.folder / "crates" / name / "src/lib.rt").write_text(" " * size)
-    command = "from fptools.launch import build; from pathlib import Path;"
-    command += " plan = build.Plan(build.Checkout(Path('.'), 'flexpret_cli'), 2); print(plan.niceness('b'), plan.niceness('a') > 5)"
+    command = "from fptools.launch import forecast; from pathlib import Path;"
+    command += " plan = forecast.Plan(forecast.Checkout(Path('.'), 'flexpret_cli'), 2); print(plan.niceness('b'), plan.niceness('a') > 5)"
     ran = subprocess.run(
         [sys.executable, "-c", command],
         cwd=checkout.folder,
@@ -145,8 +146,8 @@ def test_a_shorter_chain_yields_the_processors(checkout: Checkout) -> None:
 
 
 def test_a_proof_has_the_processors_that_no_other_crate_needs(checkout: Checkout) -> None:
-    command = "from fptools.launch import build; from pathlib import Path;"
-    command += " build.free_memory = lambda: memory; plan = build.Plan(build.Checkout(Path('.'), 'flexpret_cli'), 4); plan.running['a'] = 0.0;"
+    command = "from fptools.launch import forecast; from pathlib import Path;"
+    command += " forecast.free_memory = lambda: memory; plan = forecast.Plan(forecast.Checkout(Path('.'), 'flexpret_cli'), 4); plan.running['a'] = 0.0;"
     command += " print([plan.jobs(ready) for ready in (0, 1, 2, 3, 9)])"
     for memory, jobs in ((64, [4, 3, 2, 1, 1]), (9, [2, 2, 2, 1, 1]), (7, [1, 1, 1, 1, 1])):
         words = [sys.executable, "-c", f"memory = {memory} << 30; {command}"]

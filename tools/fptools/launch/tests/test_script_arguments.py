@@ -133,7 +133,7 @@ def fault_of(reader: Callable[[list[str]], object], words: list[str]) -> str | N
 def test_what_is_wrong_by_the_script_is_wrong_by_the_rows_of_the_gate() -> None:
     rows = [
         line.split("\t", 1)
-        for line in (TOP / "crates/unit_rows/data/words.txt").read_text().splitlines()
+        for line in (TOP / "crates/test_units/data/words.txt").read_text().splitlines()
         if "\t" in line
     ]
     assert len(rows) > 100
@@ -157,9 +157,10 @@ def test_what_is_wrong_by_the_script_is_wrong_by_the_rows_of_the_gate() -> None:
             "--from 0 --to 2001: a picture has at most 2000 cycles",
         ),
         ("turns a --from 0 --to 2 --svg x --vcd y", "--vcd and --svg: one form at a time"),
+        ("turns a --from 0 --to 2 --state --svg x", "--svg and --state: one form at a time"),
         (
             "turns a --from 0 --to 2 --sgv x",
-            "--sgv: the options are --from, --to, --konata, --vcd, --svg, --progress",
+            "--sgv: the options are --from, --to, --konata, --vcd, --svg, --progress, --state",
         ),
         ("turns a b --from 0 --to 2", "b: turns takes one SETUP, and a is that"),
         ("turns a --from 0 --from 1 --to 2", "--from is given twice"),

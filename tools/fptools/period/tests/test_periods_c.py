@@ -211,6 +211,63 @@ void main0(void)
     assert status == 2 and "the trap handler at" in text and "leads here" in text, text
 
 
+BY_HAND_CARRY = "fp_wait_until(((uint64_t)high << 32) | low); FP_PORT = work(FP_PORT);"
+
+
+@pytest.mark.parametrize(
+    "carry",
+    [
+        # gcc compares with a constant, and turns the result round.
+        "low += P; if (low < P) high++;",
+        "if (low > 0xffffffffu - P) high++; low += P;",
+        "low += P; high = high + 1 - (low >= P);",
+    ],
+    ids=["less", "before", "turned round"],
+)
+def test_a_carry_by_a_comparison_with_a_number(tool: Tool, tmp_path: Path, carry: str) -> None:
+    begin = "void main0(void)\n{\n    uint32_t low = 100000, high = 0;\n"
+    source = f"{begin}for (;;) {{ {BY_HAND_CARRY}\n {carry} }}\n}}\n"
+    status, text = Built(tool, tmp_path, source).period()
+    assert status == 0 and "; assumes no trap; the longest of" in text, text
+
+
+@pytest.mark.parametrize(
+    "carry",
+    [
+        "low += P; if (low < P + 1) high++;",
+        "if (low >= 0xffffffffu - P) high++; low += P;",
+        "low += P; high = high + 1 + (low >= P);",
+        "low += P; high = high + (low >= P);",
+    ],
+    ids=["one more", "one before", "added", "without one"],
+)
+def test_a_wrong_carry_by_a_comparison(tool: Tool, tmp_path: Path, carry: str) -> None:
+    begin = "void main0(void)\n{\n    uint32_t low = 100000, high = 0;\n"
+    source = f"{begin}for (;;) {{ {BY_HAND_CARRY}\n {carry} }}\n}}\n"
+    status, text = Built(tool, tmp_path, source).period("--ns", 20000)
+    assert status == 2 or "moments 20000 ns apart" in text, text
+
+
+@pytest.mark.parametrize(
+    "source",
+    [
+        "static uint64_t at = 100000;",
+        "static volatile uint64_t at = 100000;",
+        "static struct { uint32_t n; uint64_t at; } own = { 3, 100000 };\n#define at own.at",
+        "static uint64_t own[2] = { 100000, 5 };\n#define at own[0]",
+    ],
+    ids=["static", "volatile", "struct", "array"],
+)
+def test_a_first_moment_that_memory_has(tool: Tool, tmp_path: Path, source: str) -> None:
+    """Both are read off the code: that the first wait is in time, and the distance."""
+    body = "void main0(void)\n{\n    for (;;) { fp_wait_until(at); at += P; FP_PORT = work(FP_PORT); }\n}\n"
+    status, text = Built(tool, tmp_path, f"{source}\n{body}").period()
+    assert status == 0 and "; assumes no trap; the longest of" in text, text
+    built = Built(tool, tmp_path, f"{source}\n{body}".replace("100000", "30"))
+    status, text = built.period("--ns", 20000)
+    assert status == 2 and "the first wait may be late" in text, text
+
+
 def test_a_store_by_a_pointer_to_the_moment(tool: Tool, tmp_path: Path) -> None:
     """The code doesn't show the distance where a store may change the moment."""
     body = "for (;;) { ((uint32_t *)&next)[FP_PORT & 1] += 3; tick(); }"

@@ -163,6 +163,15 @@ def test_a_budget_that_does_not_hold_has_its_reason(
     assert (text if status == 2 else "344 of 10 cycles") in page.text
 
 
+def test_a_page_over_a_file_that_the_call_reads(reporting: Tool, tmp_path: Path) -> None:
+    budgets = tmp_path / "budgets.toml"
+    budgets.write_text(text := Path(PID[1]).read_text())
+    ran = reporting("fp_report", PID[0], budgets, *PID[2:], *RUN, "-o", budgets)
+    why = f"{budgets} can't be written: this call reads it: give another name"
+    assert (ran.returncode, ran.stdout) == (2, "") and why in ran.stderr, ran.stderr
+    assert budgets.read_text() == text
+
+
 def test_addresses_do_without_an_executable(reporting: Tool, tmp_path: Path) -> None:
     budgets, out = tmp_path / "budgets.toml", tmp_path / "report.html"
     budgets.write_text(

@@ -10,6 +10,8 @@ import pytest
 from fptools.testing.common import TOP, Tool
 from fptools.files.trace import Event, read_trace
 from dev.fuzz.view_forms import Dump
+from fptools.view.drawer import drawn
+from fptools.view.rows import Row, rows_of
 from fptools.view.tests.views import SPACE, refused, said
 
 pytest_plugins = ["fptools.view.tests.fixtures"]
@@ -164,10 +166,6 @@ def test_without_more_the_text_is_that_of_the_view(viewing: Tool, view: str, set
     text = said(viewing, f"examples/{setup}.toml", "--from", str(first), "--to", str(end))
     lines = [line.partition(" (")[0] if " trap " in line else line for line in text.splitlines()]
     assert lines == plain(view, setup, first, end).splitlines()
-    log = said(
-        viewing, f"examples/{setup}.toml", "--from", str(first), "--to", str(end), "--konata", "-"
-    )
-    assert log == plain(view, setup, first, end, "--konata", "-")
 
 
 def test_lines_of_some_threads(viewing: Tool, view: str) -> None:
@@ -196,7 +194,19 @@ def test_the_cells_are_those_of_the_view(viewing: Tool, view: str, setup: str, z
         (kind.replace("w", "i"), at, text.partition(" (")[0])
         for kind, at, text in cells_of(own, 12 * zoom, 52)
     ]
-    assert found == cells_of(plain(view, setup, 443, 520, "--svg", "-"), 12, 44)
+    assert found == [
+        (kind_of(row), row.cycle - 443, " ".join(f"cycle {row.cycle}, {row.time} ns: {row.line[46:]}".split()))
+        for row in rows_of(plain(view, setup, 443, 520, "--state").splitlines())
+        if row.turn is not None
+    ]  # fmt: skip
+
+
+def kind_of(row: Row) -> str:
+    """The classes of a turn's cell, without those of a wait."""
+    kind = {"flushed": "f", "held": "h", "trap": "t"}.get(row.line[94:].split(" ")[0], "i")
+    thread = row.line[46:48]
+    kind = "f" if row.line[49:] == "flushed" else kind
+    return kind if row.slot in ("S", thread) else f"{kind} d"
 
 
 @pytest.mark.parametrize("setup", SETUPS)
@@ -222,7 +232,8 @@ def test_signals_are_those_of_the_view_and_of_runs(
     viewing: Tool, view: str, flexpret: str, setup: str
 ) -> None:
     words = (f"examples/{setup}.toml", "--from", "0", "--to", "500", "--vcd", "-")
-    dump, given = Dump(said(viewing, *words)), Dump(plain(view, setup, 0, 500, "--vcd", "-"))
+    rows = rows_of(plain(view, setup, 0, 500, "--state").splitlines())
+    dump, given = Dump(said(viewing, *words)), Dump("\n".join(drawn("vcd", rows, 0)))
     assert [time for time, _ in dump.times] == [time for time, _ in given.times]
     for (_, values), (_, wanted) in zip(dump.times, given.times):
         assert wanted.items() <= values.items()

@@ -12,7 +12,7 @@ from fptools.files.sources import Sources
 from fptools.view.marks import Mark, mark_of, passages_of, periods_of
 from fptools.view.names import Names
 from fptools.view.picture import Picture, Shape
-from fptools.view.rows import Row, Turn, turn_of
+from fptools.view.rows import Row, State, Turn, turn_of
 from dev.fuzz.view_forms import Dump
 from fptools.view.tests.views import SPACE, refused, said
 
@@ -20,7 +20,7 @@ pytest_plugins = ["fptools.view.tests.fixtures"]
 
 
 def row(cycle: int, text: str) -> Row:
-    return Row(cycle, 10 * cycle, "S", turn_of(cycle, text), text)
+    return Row(cycle, 10 * cycle, "S", turn_of(cycle, text), text, State(), 10)
 
 
 def issue(pc: int, effect: str = "-", thread: int = 0) -> str:

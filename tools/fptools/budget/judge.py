@@ -18,7 +18,8 @@ from fptools.code.section import Exit, Loop, Section, WayOut, walk_all
 from fptools.files.setup import Setup
 from fptools.files.sources import Sources
 from fptools.stack.flow import SP
-from fptools.stack.threads import NO_OTHER_TRAP
+from fptools.stack.room import is_data
+from fptools.stack.thread_depths import NO_OTHER_TRAP
 from fptools.stack.stacks import Stack, Stacks
 from fptools.code.thread import Code, ThreadCode, entries_of
 from fptools.code.values import clobbered_by
@@ -89,8 +90,13 @@ class Asked:
     def loads_a_return(self) -> bool:
         """Whether a word of its code, or of what leads to it, loads x1 or sp from memory, as a
         function does that calls others."""
+        return any(it.rd in (RETURN_ADDRESS, SP) for it in self.loads)
+
+    @property
+    def loads(self) -> list[Word]:
+        """The loads of its code, and of what leads to it."""
         words = [*self.before, *(word for part in self.parts for word in part.reached.values())]
-        return any(it.opcode == OPCODE_LOAD and it.rd in (RETURN_ADDRESS, SP) for it in words)
+        return [it for it in words if it.opcode == OPCODE_LOAD]
 
     def assumes(self, what: Assumption, note: str) -> bool:
         """Whether the budget takes something for granted; then it is noted."""
@@ -270,7 +276,8 @@ class Judge:
         """The code that a thread may run."""
         if number not in self._threads:
             table = self.setup.thread(number)
-            self._threads[number] = ThreadCode(self._code, table.entry if table else 0)
+            entry = table.entry if table else 0
+            self._threads[number] = ThreadCode(self._code, entry, self.setup.fetches(number))
         return self._threads[number]
 
     def _look_at_fetches(self, asked: Asked) -> None:
@@ -382,6 +389,8 @@ class Judge:
         ways = sorted(
             thread.comes_back(asked.section, asked.begin), key=lambda way: not way.is_meant
         )
+        if not ways or not ways[0].is_meant:
+            asked.notes += [f"assumes {it}" for it in self.trusted_handlers(thread)]
         if not ways:
             if expiry:
                 asked.notes.append(f"{armed}; the bound ends where its moment expires")
@@ -394,6 +403,11 @@ class Judge:
                 f"if executions without a trap are meant: assume = [{Assumption.NO_TRAPS.value!r}]"
             )
             raise Unknown(f"{note}: no bound counts a trap handler; {helps}")
+
+    def trusted_handlers(self, thread: ThreadCode) -> list[str]:
+        """What is assumed of the values that mtvec gets."""
+        text = "no jump by a register leads between the words that set mtvec"
+        return [f"{text} ({self.where(it.pc)})" for it in thread.trusted_handlers]
 
     def _look_at_moved_work(self, asked: Asked, thread: ThreadCode) -> None:
         """Work between the marks of a section is done in it: else there is a warning. Without lines nothing tells, but
@@ -449,10 +463,15 @@ class Judge:
         if stack.verdict is Verdict.OVER:
             raise Unknown(f"the stack may not fit: {stack.text}: {LESS_STACK}")
         words, note = Assumption.STACK_FITS, f"whether the stack fits is unknown: {stack.text}"
-        if not asked.loads_a_return:
+        if not asked.loads_a_return and not (stack.is_shared and self._loads_data(asked)):
             asked.notes.append(f"assumes {words.value}: {note}")
         elif not asked.assumes(words, note):
             raise Unknown(f"{note}; if it fits: assume = [{words.value!r}]")
+
+    def _loads_data(self, asked: Asked) -> bool:
+        """Whether a word of the code may load from the stack: its address isn't known to be no data."""
+        bases = (self._code.value_at(it.pc, it.rs1) for it in asked.loads)
+        return any(it is None or is_data(it) for it in bases)
 
     @cached_property
     def stacks(self) -> Stacks:

@@ -4,6 +4,7 @@ from __future__ import annotations
 from dataclasses import dataclass
 from typing import Callable, Iterable, Iterator
 
+from fptools.code.digraph import search
 from fptools.stack.flow import (
     STACK_POINTER,
     Function,
@@ -108,10 +109,5 @@ class Functions:
 
     def called_from(self, starts: Iterable[int]) -> Iterator[Function]:
         """Some functions that are called, by their addresses, and those that they call."""
-        ahead, seen = list(starts), set[int]()
-        while ahead:
-            start = ahead.pop()
-            if start not in seen:
-                seen.add(start)
-                yield self.done[start]
-                ahead += self.done[start].calls.values()
+        found = search(starts, lambda it: self.done[it].calls.values())
+        return (self.done[it] for it in found)

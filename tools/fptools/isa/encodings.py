@@ -2,7 +2,6 @@
 
 An operand is a letter: `d`, `s` and `t` are the registers rd, rs1 and rs2, `z` a number in place of rs1, `c` a CSR,
 `h` a shift, `i` an immediate, `o` the offset of a store, `b` and `j` those of a branch and a jump, `u` upper bits."""
-from __future__ import annotations
 
 PIECES: dict[str, tuple[tuple[int, int], ...]] = {
     "d": ((7, 5),), "s": ((15, 5),), "t": ((20, 5),), "z": ((15, 5),), "c": ((20, 12),), "h": ((20, 5),),

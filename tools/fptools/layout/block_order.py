@@ -5,8 +5,9 @@ import heapq
 from collections import defaultdict
 from collections.abc import Iterable, Sequence
 from dataclasses import dataclass, field
+from graphlib import CycleError, TopologicalSorter
 
-from fptools.code.digraph import Dominators, Graph
+from fptools.code.digraph import Dominators, Graph, search
 from fptools.layout.blocks import Block
 
 MOST_AROUND = 3
@@ -63,13 +64,7 @@ class Flows:
 
     def reach(self, first: int, without: Iterable[int] = ()) -> set[int]:
         """The blocks that one reaches, itself included, without going through some others."""
-        seen, ahead, closed = {first}, [first], set(without)
-        while ahead:
-            for to in self.next_blocks[ahead.pop()]:
-                if to not in seen and to not in closed:
-                    seen.add(to)
-                    ahead.append(to)
-        return seen
+        return {*search([first], self.next_blocks.__getitem__, {*without} - {first})}
 
     def edges(self) -> Iterable[tuple[int, int]]:
         return ((index, to) for index in sorted(self.reached) for to in self.next_blocks[index])
@@ -79,14 +74,11 @@ class Flows:
 
     def passing(self, section: Section) -> set[int]:
         """The blocks of a section that reach its end."""
-        found: set[int] = set()
-        ahead = [index for index in self.before[section.end] if index in section.blocks]
-        while ahead:
-            index = ahead.pop()
-            if index not in found:
-                found.add(index)
-                ahead += [it for it in self.before[index] if it in section.blocks]
-        return found
+
+        def before(index: int) -> list[int]:
+            return [it for it in self.before[index] if it in section.blocks]
+
+        return {*search(before(section.end), before)}
 
 
 @dataclass
@@ -106,37 +98,23 @@ class Nest:
             head: Loop(head, {head}) for head in sorted({head for _, head in self.back_edges})
         }
         for last, head in self.back_edges:
-            self._grow(self.loops[head].blocks, last)
+            # The blocks that reach the end of a back edge without going through the head.
+            body = self.loops[head].blocks
+            body |= {*search([last], self.flows.before.__getitem__, body)}
         self.innermost = {}
         for loop in sorted(self.loops.values(), key=lambda it: (-len(it.blocks), it.head)):
             loop.around = self.innermost.get(loop.head)
             self.innermost.update(dict.fromkeys(loop.blocks, loop))
 
     def _refuse_irreducible(self) -> None:
-        waits = {index: 0 for index in self.flows.reached}
-        onward = [edge for edge in self.flows.edges() if edge not in self.back_edges]
-        for _, to in onward:
-            waits[to] += 1
-        ready, done = [index for index, count in waits.items() if not count], 0
-        while ready:
-            index = ready.pop()
-            done += 1
-            for to in self.flows.next_blocks[index]:
-                if (index, to) not in self.back_edges:
-                    waits[to] -= 1
-                    if not waits[to]:
-                        ready.append(to)
-        if done < len(waits):
-            raise Irreducible
-
-    def _grow(self, body: set[int], last: int) -> None:
-        """Adds the blocks that reach the end of a back edge without going through the head."""
-        ahead = [last]
-        while ahead:
-            index = ahead.pop()
-            if index not in body:
-                body.add(index)
-                ahead += self.flows.before[index]
+        sorter = TopologicalSorter[int]()
+        for index, to in self.flows.edges():
+            if (index, to) not in self.back_edges:
+                sorter.add(to, index)
+        try:
+            sorter.prepare()
+        except CycleError:
+            raise Irreducible from None
 
     def around(self, index: int) -> list[Loop]:
         """The loops around a block, the innermost first."""

@@ -6,8 +6,9 @@ from dataclasses import dataclass, replace
 from functools import cached_property
 from typing import Callable, Collection, Iterable, Iterator
 
+from fptools.code.digraph import search
 from fptools.files.setup import Setup, ThreadTable
-from fptools.stack.depths import Depth, Functions
+from fptools.stack.function_depths import Depth, Functions
 from fptools.stack.flow import (
     STACK_POINTER,
     TOP,
@@ -70,12 +71,9 @@ class Looked:
         self.entry = functions.entry(table.entry)
         self.main = [self.entry, *functions.called_from(self.entry.calls.values())]
         self.handlers: dict[int, Function] = {}
-        ahead = [*self._set_by(self.main), *self._of_reset()]
-        while ahead:
-            start = ahead.pop()
-            if start not in self.handlers:
-                handler = self.handlers[start] = functions.handler(start)
-                ahead += self._set_by(self._with_callees(handler))
+        starts = [*self._set_by(self.main), *self._of_reset()]
+        for start in search(starts, lambda it: self._set_by(self._with_callees(self.handlers[it]))):
+            self.handlers[start] = functions.handler(start)
 
     def _with_callees(self, function: Function) -> list[Function]:
         return [function, *self.functions.called_from(function.calls.values())]
@@ -166,12 +164,7 @@ class Looked:
         """Whether a write of mepc adds 4 to it, and no other write comes behind it."""
         if word.pc not in handler.before or not self.code.skips_a_word(word):
             return False
-        ahead, seen = list(handler.edges[word.pc]), set[int]()
-        while ahead:
-            pc = ahead.pop()
-            if pc not in seen:
-                seen.add(pc)
-                ahead += handler.edges.get(pc, [])
+        seen = {*search(handler.edges[word.pc], lambda pc: handler.edges.get(pc, []))}
         called = self.functions.called_from(handler.calls[pc] for pc in handler.calls if pc in seen)
         behind = [*map(self.code.word, seen), *self._words(called)]
         return not any(it.writes_mepc for it in behind)
@@ -268,13 +261,11 @@ class Looked:
 
     def _look_at_overlap(self, handler: Function, shared: Collection[int]) -> None:
         """Where a handler goes on in other code of the thread, nothing there may trap or call."""
-        ahead, seen = list(shared), set[int]()
-        while ahead:
-            pc = ahead.pop()
-            if pc in seen or not handler.is_relative(pc):
-                continue
-            seen.add(pc)
-            ahead += handler.edges.get(pc, [])
+
+        def relative(pcs: Iterable[int]) -> Iterable[int]:
+            return filter(handler.is_relative, pcs)
+
+        for pc in search(relative(shared), lambda pc: relative(handler.edges.get(pc, []))):
             word = self.code.word(pc)
             if pc in handler.calls or word.may_trap or word.traps_by_intent:
                 why = "the trap handler {} goes on in code that may trap, and keeps its stack"

@@ -4,7 +4,7 @@ from __future__ import annotations
 import tempfile
 from pathlib import Path
 
-from fptools.budget.budgets import Judge
+from fptools.budget.judge import Judge
 from fptools.budget.files import Budget, Result
 from fptools.budget.names import Names
 

@@ -2,7 +2,6 @@
 
 A stamp is next to each program, `out/CRATE.sources`: the kit's line, the commit, the program's own size, time and checksum, and
 the same for each source of its crate and of those below. Checksums are only computed if a size or time differs."""
-from __future__ import annotations
 
 import contextlib
 import hashlib
@@ -11,6 +10,8 @@ import shutil
 import subprocess
 from dataclasses import dataclass
 from pathlib import Path
+
+from fptools.code.digraph import search
 
 PARTS = ("src", "specs", "proofs")
 """The folders of a crate that its proof reads."""
@@ -119,14 +120,8 @@ class Checkout:
     def crates(self) -> list[str]:
         """The program's crate and those of the repository below it, by name."""
         libraries = self.libraries()
-        found: set[str] = set()
-        ahead = [self.crate]
-        while ahead:
-            crate = ahead.pop()
-            if crate not in found:
-                found.add(crate)
-                ahead += [library for library in libraries.get(crate, []) if library in libraries]
-        return sorted(found)
+        below = {name: [it for it in uses if it in libraries] for name, uses in libraries.items()}
+        return sorted(search([self.crate], lambda it: below.get(it, [])))
 
     def uses(self) -> tuple[str, ...]:
         libraries = self.libraries()
@@ -283,6 +278,18 @@ def commit_of(top: Path) -> str:
         ["git", "--no-optional-locks", "status", "--porcelain", "--", "crates", "crates.txt"], top
     )
     return (commit or "unknown") + (" with changes" if commit and changes else "")
+
+
+def changes_of(top: Path) -> tuple[str, ...]:
+    """The tracked files of a checkout that differ from its commit."""
+    words = ["git", "--no-optional-locks", "status", "--porcelain", "--untracked-files=no"]
+    try:
+        ran = subprocess.run(words, cwd=top, capture_output=True, text=True, check=False)
+    except OSError:
+        return ()
+    return (
+        tuple(sorted(line[3:] for line in ran.stdout.splitlines())) if ran.returncode == 0 else ()
+    )
 
 
 def kit_line() -> str:
