@@ -1,16 +1,15 @@
 #!/usr/bin/env bash
 # Runs the commands that README.md, the pages of docs/ and model/README.md show, in a folder of its own, and compares what they
 # write with the page or with a stored file. A line with a command that isn't run here is a difference too. FLEXPRET and
-# FLEXPRET_VIEW name the programs, if they aren't those that ../flexpret and ../flexpret-view leave; ../flexpret is called in any
-# case. The gate does so too. The other pages have scripts of their own.
+# FLEXPRET_VIEW name the programs, if they aren't those that ../flexpret and ../flexpret-view leave; these scripts are called in
+# any case. The gate does so too. The other pages have scripts of their own.
 # shellcheck disable=SC2016,SC2154,SC2317
 set -u
 here=$(dirname "$(readlink -f "${BASH_SOURCE[0]}")")
 top=$(dirname "$here")
 [ -z "${FLEXPRET:-}" ] || FLEXPRET=$(readlink -f "$FLEXPRET")
 export FLEXPRET=${FLEXPRET:-$top/crates/flexpret_cli/out/flexpret_cli}
-view=$(readlink -f "${FLEXPRET_VIEW:-$top/flexpret-view}")
-[ -z "${FLEXPRET_VIEW:-}" ] || export FLEXPRET_VIEW=$view
+if [ -n "${FLEXPRET_VIEW:-}" ]; then FLEXPRET_VIEW=$(readlink -f "$FLEXPRET_VIEW") && export FLEXPRET_VIEW; fi
 
 work=$(mktemp -d)
 trap 'rm -rf "$work"' EXIT
@@ -20,7 +19,7 @@ export PATH=$work/bin:$PATH
 cd "$work/folder" || exit 1
 ln -s "$here" "$top/model" "$top/tools" .
 ln -s "$top/flexpret" flexpret
-ln -s "$view" flexpret-view
+ln -s "$top/flexpret-view" flexpret-view
 
 # shellcheck source=examples/shown.bash
 . "$here/shown.bash"
@@ -86,7 +85,7 @@ as_in "$here/drive.trace" 'python3 -m model run examples/drive.toml --thread 0 -
 as_in "$here/c/pid.bound" 'python3 -m model bound examples/c/pid.toml --thread 0 --from 0xb4 --to 0x1a4'
 
 # A form of the view's arguments.
-known['./flexpret-view turns SETUP --from CYCLE --to CYCLE [--konata FILE | --vcd FILE | --svg FILE] [--progress UNTIL]']=run
+known['./flexpret-view turns SETUP --from CYCLE --to CYCLE [--konata FILE | --vcd FILE | --svg FILE | --state] [--progress UNTIL]']=run
 
 # The setup with each key.
 sed -n '/^```toml$/,/^```$/{/^```/d; p}' "$top/docs/FORMATS.md" >each-key.toml

@@ -79,6 +79,17 @@ script_around() {
     touch "$2/installed"
 }
 
+# as_script PROGRAM FOLDER TOP: the script ./flexpret around a program that is built, as by script_around; a script stays as it is.
+as_script() {
+    local program
+    program=$(readlink -f "$1")
+    if [[ $(head -c 4 "$program" | tail -c 3) == ELF ]]; then
+        script_around "$program" "$2" "$3"
+        program=$2/flexpret
+    fi
+    echo "$program"
+}
+
 # What a script does that wants no more than the commands.
 try_command() { as_shown "$1"; }
 other_line() { :; }

@@ -17,10 +17,11 @@ from pathlib import Path
 from dev.crates.source import Source
 
 from dev.program import TOP
+from fptools.launch.up_to_date import Checkout
 
 LIST = TOP / "docs/dev/API.txt"
 REFUSALS = TOP / "crates/trace_print/specs/Refusals.antt"
-STATUSES = TOP / "crates/command_files/specs/Status.antt"
+STATUSES = TOP / "crates/commands/specs/Status.antt"
 HEAD = """\
 Each public signature, field, variant and number of the crates, lowest crate first. It is made by dev/crates/api.py from the
 sources; the gate compares. `..` stands for private fields. What a call promises is its contract, in the sources.
@@ -302,11 +303,8 @@ class Crate:
 
 def libraries() -> Iterator[str]:
     """The crates that have a library, lowest first."""
-    for line in (TOP / "crates.txt").read_text(encoding="utf-8").splitlines():
-        name = (
-            line.partition(":")[0].split()[0] if line.strip() and not line.startswith("#") else ""
-        )
-        if name and (TOP / "crates" / name / "src/lib.rt").is_file():
+    for name in Checkout(TOP, "").libraries():
+        if (TOP / "crates" / name / "src/lib.rt").is_file():
             yield name
 
 

@@ -7,7 +7,6 @@ contract, a definition that it cites, and the line that is missing.
 The definitions in `specs/` of the crates in `DOORS` may also only use names that the crate re-exports. A program with only such a
 crate in crates.txt can then use its contracts. The exit status is 1 if a line is missing, and 2 if a crate's files can't be
 read."""
-from __future__ import annotations
 
 import argparse
 import re
@@ -19,6 +18,7 @@ from pathlib import Path
 from dev.crates.source import CLAUSES, Source
 
 from dev.program import TOP
+from fptools.launch.up_to_date import Checkout
 
 DOORS = ("flexpret_top",)
 """The crates that a program may have as its only library in crates.txt."""
@@ -241,12 +241,6 @@ def missing_below(top: Path, crate: str, crates: set[str]) -> Iterator[Missing]:
             yield Missing(crate, file.relative_to(top), number, "a definition", names, path)
 
 
-def crates_of(top: Path) -> list[str]:
-    """The crates that crates.txt lists."""
-    lines = (line.split("#")[0].strip() for line in (top / "crates.txt").read_text().splitlines())
-    return [line.split(":")[0].split()[0] for line in lines if line]
-
-
 def main(arguments: list[str]) -> int:
     parser = argparse.ArgumentParser(
         description=__doc__, formatter_class=argparse.RawDescriptionHelpFormatter
@@ -255,7 +249,7 @@ def main(arguments: list[str]) -> int:
     parser.add_argument("--top", type=Path, default=TOP, help="the folder of the repository")
     chosen = parser.parse_args(arguments)
     try:
-        crates = crates_of(chosen.top)
+        crates = list(Checkout(chosen.top, "").libraries())
         libraries = [
             name
             for name in chosen.crates or crates

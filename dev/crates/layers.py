@@ -9,7 +9,6 @@ another one, or a rule is broken; 2 a file can't be read. The rules: a crate use
 it in the file, its files name each library of its line, it has a row in the page's table, and no
 chain of crates is longer than LONGEST.
 """
-from __future__ import annotations
 
 import argparse
 import re

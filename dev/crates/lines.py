@@ -7,7 +7,6 @@ proofs. A column is a character. A line passes if one quoted text in it is wider
 of antt ends on its line. Status: 0 no line is too wide, or --check isn't given; 1 with --check, one
 is; 2 a crate has no files, or one can't be read.
 """
-from __future__ import annotations
 
 import argparse
 import re

@@ -6,7 +6,6 @@ It builds the core by Verilator, draws COUNT setups by each generator, and takes
 --faults instead plants each fault of dev/fuzz/core_faults.py in the core. The commands of
 docs/FLEXPRET.md must find it over the example that it names. The gate does both. The status is 1 if
 a setup differs, or a fault isn't found."""
-from __future__ import annotations
 
 import argparse
 import os

@@ -1,7 +1,6 @@
 """Faults that a core may have, each with the example over which docs/FLEXPRET.md finds it.
 
 All are planted in one copy of the core, and `+fault=N` chooses one, so that it is built once."""
-from __future__ import annotations
 
 import re
 import sys

@@ -5,13 +5,11 @@ Line N of a seed is always the same, so --first continues where a call ended, an
 The gate makes a short call. The status is 1 if something was found."""
 import argparse
 import contextlib
-import importlib
 import os
 import random
 import re
 import resource
 import signal
-import site
 import sys
 import tempfile
 import time
@@ -24,11 +22,13 @@ from types import FrameType
 from typing import Any
 
 from dev.fuzz.hostile import COMMANDS, Corpus, Hostile, Line, corpus
-from dev.program import TOP, built_program, complaint
+from dev.program import built_program, complaint
 from fptools.program.status import Status
+from model.commands import MemSink, RealFiles, flexpret
+from model.ports import HeldPort
 
-MODEL = TOP / "model"
-"""The repository's executable model."""
+SECONDS, MEMORY = 10.0, 512 << 20
+"""The time of a call, and its address space in bytes."""
 
 SAMPLE = 20
 """One line in so many is compared with the model."""
@@ -117,34 +117,18 @@ class Caller:
             return None
 
 
-def model_of(folder: str) -> Any:
-    """The commands of the repository's model, or of another whose folder has `top.py`."""
-    if Path(folder) == MODEL:
-        return importlib.import_module("model.commands")
-    site.addsitedir(folder)
-    return importlib.import_module("top")
-
-
-class Model:
-    """An executable model, which runs command lines on real files."""
-
-    def __init__(self, folder: str, seconds: float) -> None:
-        self.top = model_of(folder)
-        self.seconds = seconds
-
-    def answer(self, words: list[bytes]) -> tuple[int, bytes] | None:
-        """The status and the bytes, or None if the model takes too long."""
-        try:
-            texts = [word.decode() for word in words]
-        except UnicodeDecodeError:
-            return Status.USAGE, b""
-        sink = self.top.MemSink()
-        ports = [self.top.HeldPort() for _ in range(8)]
-        try:
-            with at_most(self.seconds):
-                return self.top.flexpret(texts, self.top.RealFiles(), sink, ports), sink.bytes
-        except Late:
-            return None
+def answer_of_model(words: list[bytes], seconds: float) -> tuple[int, bytes] | None:
+    """The status and the bytes that the model has for a command line on real files, or None if it takes too long."""
+    try:
+        texts = [word.decode() for word in words]
+    except UnicodeDecodeError:
+        return Status.USAGE, b""
+    sink = MemSink()
+    try:
+        with at_most(seconds):
+            return flexpret(texts, RealFiles(), sink, [HeldPort() for _ in range(8)]), sink.bytes
+    except Late:
+        return None
 
 
 @dataclass
@@ -192,15 +176,12 @@ def wrong_of(ended: Ended) -> str | None:
 class Worker:
     """A process that draws lines, calls the program and compares."""
 
-    def __init__(
-        self, seed: int, program: Path, model: str | None, room: str, seconds: float, memory: int
-    ) -> None:
+    def __init__(self, seed: int, program: Path, room: str) -> None:
         self.seed = seed
         self.seeds: Corpus = corpus()
         os.chdir(tempfile.mkdtemp(dir=room))
-        self.caller = Caller(program, room, seconds)
-        self.model = Model(model, 2 * seconds) if model else None
-        resource.setrlimit(resource.RLIMIT_AS, (memory << 20, memory << 20))
+        self.caller = Caller(program, room, SECONDS)
+        resource.setrlimit(resource.RLIMIT_AS, (MEMORY, MEMORY))
         resource.setrlimit(resource.RLIMIT_CORE, (0, 0))
 
     def line(self, number: int) -> Line:
@@ -226,15 +207,14 @@ class Worker:
             line.command(), ended.status if ended.status is not None else -signal.SIGALRM
         ] += 1
         wrong = wrong_of(ended)
-        if wrong is None and self.model and number % SAMPLE == 0:
+        if wrong is None and number % SAMPLE == 0:
             wrong = self.compare(line, ended, tally)
         if wrong is not None:
             tally.findings.append(Finding(number, line, ended, wrong))
 
     def compare(self, line: Line, ended: Ended, tally: Tally) -> str | None:
-        assert self.model
         try:
-            wanted = self.model.answer(line.words)
+            wanted = answer_of_model(line.words, 2 * SECONDS)
         except Exception as error:
             return f"the model fails: {error!r}"
         tally.compared["not in time" if wanted is None else "compared"] += 1
@@ -337,15 +317,6 @@ def parsed() -> argparse.Namespace:
     parser.add_argument(
         "--program", help="the built program (left out: the one that ./flexpret and rt ci leave)"
     )
-    parser.add_argument(
-        "--model",
-        metavar="DIR",
-        default=MODEL,
-        help="another executable model than the repository's: a folder whose top.py has flexpret()",
-    )
-    parser.add_argument(
-        "--no-model", dest="model", action="store_const", const=None, help="compare with no model"
-    )
     parser.add_argument("--seed", type=int, default=1)
     parser.add_argument(
         "--first", type=int, default=0, metavar="N", help="the number of the first line"
@@ -355,10 +326,6 @@ def parsed() -> argparse.Namespace:
         "--only", type=int, metavar="N", help="line N alone; --keep has its files afterwards"
     )
     parser.add_argument("--jobs", type=int, default=1, metavar="N", help="how many lines at a time")
-    parser.add_argument("--seconds", type=float, default=10, metavar="S", help="the time of a call")
-    parser.add_argument(
-        "--memory", type=int, default=512, metavar="MIB", help="the address space of a call"
-    )
     parser.add_argument(
         "--keep",
         type=Path,
@@ -391,19 +358,11 @@ def try_one(options: argparse.Namespace, given: tuple[Any, ...]) -> Tally:
 
 def main() -> int:
     options = parsed()
-    model = str(Path(options.model).resolve()) if options.model else None
     options.keep = options.keep.resolve()
     with tempfile.TemporaryDirectory(
         prefix="fuzz-", dir="/dev/shm" if os.path.isdir("/dev/shm") else None
     ) as room:
-        given = (
-            options.seed,
-            built_program(options.program),
-            model,
-            room,
-            options.seconds,
-            options.memory,
-        )
+        given = (options.seed, built_program(options.program), room)
         tally = fuzz(options, given) if options.only is None else try_one(options, given)
     print_table(tally)
     return 1 if tally.findings else 0

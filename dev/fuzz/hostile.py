@@ -6,7 +6,8 @@ from collections.abc import Callable, Sequence
 from dataclasses import dataclass, field
 
 from dev.program import TOP
-from dev.gate.tables import cases, columns, repeated, unescaped
+from dev.gate.tables import cases, columns
+from model.tables.forms import repeated, unescaped
 
 EDGES = sorted(
     {

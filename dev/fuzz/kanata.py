@@ -11,7 +11,6 @@ python3 -m dev.fuzz.kanata FILE..: status 1 if a rule is broken; `-` is standard
   It has one label (type 0) and one detail (type 1) at its end.
 The rules are the common description of the format. They weren't compared with the viewer or a specification.
 """
-from __future__ import annotations
 
 import sys
 from dataclasses import dataclass, field

@@ -7,7 +7,6 @@ of 1,000 longer than its bound; a second pass changes nothing. Functions whose l
 counted apart. Status 1: one fails; its C source and assembly are kept in --keep.
 
     python3 -m dev.fuzz.layout_fuzz 1 500"""
-from __future__ import annotations
 
 import argparse
 import random

@@ -8,10 +8,8 @@ number of commits. Status 1: a bound is below; a smaller program that also fails
 --keep.
 
     python3 -m dev.fuzz.marks_fuzz --seed 1 --count 1000"""
-from __future__ import annotations
 
 import argparse
-import math
 import random
 import shutil
 import subprocess
@@ -186,9 +184,6 @@ def main() -> int:
     )
     parser.add_argument("--only", type=int, metavar="N", help="only this program")
     parser.add_argument(
-        "--seconds", type=float, default=math.inf, metavar="N", help="begin none after so long"
-    )
-    parser.add_argument(
         "--keep", type=Path, default=Path("failed"), help="the folder for programs that fail"
     )
     asked = parser.parse_args()
@@ -197,8 +192,6 @@ def main() -> int:
     with tempfile.TemporaryDirectory() as folder:
         loop_run = runner(Path(folder))
         for number in numbers:
-            if time.monotonic() - began > asked.seconds:
-                break
             last, own = number, Path(folder) / str(number)
             own.mkdir()
             found += tried(Trial(f"{asked.seed} {number}", own), loop_run, asked.keep)

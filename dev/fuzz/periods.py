@@ -9,7 +9,6 @@ For each program it takes the bound as the distance of two moments. Then fp_budg
 A row: the number and kind of a program, its frame (T a slot of the thread, S of others), the
 nanoseconds of a cycle, the bound, the longest period of the run, and their ratio. Status 1 where
 a promise is broken."""
-from __future__ import annotations
 
 import argparse
 import os
@@ -26,7 +25,7 @@ from dev.program import TOP
 
 
 from fptools.budget.files import Budget, PeriodOf, Result, Verdict
-from fptools.budget.budgets import Judge
+from fptools.budget.judge import Judge
 from fptools.files.elf import Program
 from fptools.files.image import read_image
 from fptools.files.lint import read_valid

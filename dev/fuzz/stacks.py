@@ -8,7 +8,6 @@ random places. No run may get deeper than a depth that is known. Status 1: one d
 --keep.
 
     FLEXPRET=.. python3 -m dev.fuzz.stacks 1 500"""
-from __future__ import annotations
 
 import argparse
 import os

@@ -1,9 +1,9 @@
-"""Reads each form of `flexpret_view` back, and compares it with the cycles of the executable model."""
-from __future__ import annotations
+"""Reads each form of a view back, and compares it with the cycles of the executable model."""
 
 from collections.abc import Iterator, Sequence
-from dataclasses import dataclass, field
-from xml.etree import ElementTree
+from dataclasses import dataclass
+
+from fptools.view.rows import HEAD, STAGES, Row, State, ThreadState, rows_of
 
 from dev.fuzz import kanata
 
@@ -20,25 +20,10 @@ UNITS_LATE, LATCH_LATE = 3, 4
 INPUT_GONE, LATCH_GONE = 0, 4
 """The cycles from the unplugging of a port until it reads as ones, and until its latch is gone."""
 
-COLUMN, LEFT, TIME_WIDTH, LEAST_WIDTH, LEGEND = 12, 44, 84, 560, 210
-"""The picture's measures."""
-
 OPEN = (1 << 32) - 1
-STAGES = "FDEMW"
-HEAD = "     cycle            ns slot  F  D  E  M  W  turn"
 
 
 # ---------------------------------------------------------------- the model's cycles
-
-
-@dataclass(frozen=True)
-class ThreadState:
-    """The state of a thread at a cycle's start."""
-
-    asleep: bool
-    armed: int | None
-    latch: int | None
-    input: int
 
 
 @dataclass(frozen=True)
@@ -48,8 +33,7 @@ class Cycle:
     number: int
     time: int
     slots: int
-    modes: int
-    threads: Sequence[ThreadState]
+    state: State
     turn: Turn
 
     def slot(self) -> str:
@@ -110,7 +94,7 @@ class Run:
             self.held[max(number + 1 - LATCH_LATE, 0)].latches,
         )
         time = number * self.setup.period
-        threads = [
+        threads = tuple(
             ThreadState(
                 units.modes >> 2 * k & 1 == 1 or time < units.sleeps[k],
                 units.armed[k],
@@ -118,8 +102,8 @@ class Run:
                 OPEN if is_gone(thread.unplug, number, INPUT_GONE) else self.shown(k, number),
             )
             for k, thread in enumerate(self.setup.threads)
-        ]
-        return Cycle(number, time, units.slots, units.modes, threads, self.world.step())
+        )
+        return Cycle(number, time, units.slots, State(units.modes, threads), self.world.step())
 
     def shown(self, thread: int, cycle: int) -> int:
         """The input of a thread's port while it is plugged in."""
@@ -162,11 +146,10 @@ class Texts:
         text = self.of.get((turn.pc, turn.word), "?")
         return f"T{turn.thread} {turn.pc:08x} {turn.word:08x} {text:<26} {cycle.outcome()}"
 
-    def learn(self, line: str, cycle: Cycle) -> None:
-        """Takes an instruction's text from its columns, which start after the word."""
-        at = 46 + len("T0 00000000 00000000 ")
-        if cycle.turn.kind == Kind.ISSUE:
-            self.of.setdefault((cycle.turn.pc, cycle.turn.word), line[at : at + 26].rstrip())
+    def learn(self, row: Row, cycle: Cycle) -> None:
+        """Takes an instruction's text."""
+        if cycle.turn.kind == Kind.ISSUE and row.turn is not None:
+            self.of.setdefault((cycle.turn.pc, cycle.turn.word), row.turn.text)
 
 
 Wrong = Iterator[tuple[str, str]]
@@ -186,16 +169,17 @@ def stage_of(cycles: Sequence[Cycle], number: int) -> str:
 
 def wrong_text(shown: str, window: Window, texts: Texts) -> Wrong:
     lines = shown.split("\n")
-    yield from differs("text head", lines[0], HEAD)
+    yield from differs("text head", lines[0], f"{HEAD}\t{window.period}")
     yield from differs("text length", (len(lines), lines[-1]), (len(window) + 2, ""))
-    for line, cycle in zip(lines[1:], window.shown()):
-        texts.learn(line, cycle)
+    last: State | None = None
+    for line, row, cycle in zip(lines[1:], rows_of(lines[:-1]), window.shown()):
+        texts.learn(row, cycle)
         stages = "".join(stage_of(window.cycles, cycle.number - k) for k in range(5))
-        yield from differs(
-            "text line",
-            line,
-            f"{cycle.number:>10} {cycle.time:>13} {cycle.slot():<4} {stages} {texts.turn(cycle)}",
-        )
+        begin = f"{cycle.number:>10} {cycle.time:>13} {cycle.slot():<4}"
+        yield from differs("text line", row.line, f"{begin} {stages} {texts.turn(cycle)}")
+        is_new = last != cycle.state
+        yield from differs("text state", ("\t" in line, row.state), (is_new, cycle.state))
+        last = cycle.state
 
 
 class Dump:
@@ -240,11 +224,8 @@ class Dump:
 
     def change(self, letter: str, value: str) -> None:
         name, kind, width = self.widths[letter]
-        if (
-            (kind == "string") != (value[0] == "s")
-            or kind != "string"
-            and not 1 <= len(value) - 1 <= width
-        ):
+        is_string = kind == "string"
+        if is_string != (value[0] == "s") or not (is_string or 1 <= len(value) - 1 <= width):
             raise ValueError(f"{value} is no value of {name}")
         self.values[name] = value[1:]
 
@@ -255,13 +236,13 @@ def bits_of(value: int | None) -> str:
 
 def signals(cycle: Cycle, last: dict[str, str], texts: Texts) -> dict[str, str]:
     """The values of all signals in a cycle; `last` has those of the instructions that were issued last."""
-    turn, found = cycle.turn, {"flexpret.slot": cycle.slot(), "flexpret.modes": f"{cycle.modes:b}"}
+    turn, modes = cycle.turn, f"{cycle.state.modes:b}"
+    found = {"flexpret.slot": cycle.slot(), "flexpret.modes": modes}
     if turn.kind == Kind.ISSUE:
+        text = texts.of.get((turn.pc, turn.word), "?").replace(" ", "_")
         last[f"flexpret.T{turn.thread}.pc"] = f"{turn.pc:b}"
-        last[f"flexpret.T{turn.thread}.instruction"] = texts.of.get(
-            (turn.pc, turn.word), "?"
-        ).replace(" ", "_")
-    for k, state in enumerate(cycle.threads):
+        last[f"flexpret.T{turn.thread}.instruction"] = text
+    for k, state in enumerate(cycle.state.threads):
         own = {
             "issue": str(int(turn.kind == Kind.ISSUE and turn.thread == k)),
             "flushed": str(int(cycle.is_flushed() and turn.thread == k)),
@@ -294,137 +275,30 @@ def wrong_vcd(shown: str, window: Window, texts: Texts) -> Wrong:
     for cycle, (_, values) in zip(window.shown(), dump.times):
         found = signals(cycle, last, texts)
         for name in sorted(found.keys() | values.keys()):
-            is_, want = values.get(name), found.get(name)
-            yield from differs(
-                f'vcd {name.split(".")[-1]}', (cycle.number, name, is_), (cycle.number, name, want)
-            )
+            is_, want = ((cycle.number, name, it.get(name)) for it in (values, found))
+            yield from differs(f'vcd {name.split(".")[-1]}', is_, want)
     if len(dump.times) > 1:
         yield from differs("vcd end", dump.times[-1][1], dump.times[-2][1])
 
 
-@dataclass
-class Logged:
-    """A turn in a log."""
-
-    thread: str
-    texts: dict[str, str] = field(default_factory=dict)
-    stages: dict[str, int] = field(default_factory=dict)
-    end: tuple[int, str] | None = None
-
-
-def read_log(text: str) -> tuple[list[Logged], int]:
-    """The turns of a log, and the cycle at its end."""
-    turns: list[Logged] = []
-    now = 0
-    for line in text.split("\n")[1:-1]:
-        command, *rest = line.split("\t")
-        if command in ("C", "C="):
-            now = int(rest[0]) + (now if command == "C" else 0)
-        elif command == "I":
-            turns.append(Logged(rest[2]))
-        elif command == "L":
-            turns[int(rest[0])].texts[rest[1]] = rest[2]
-        elif command == "S":
-            turns[int(rest[0])].stages[rest[2]] = now
-        else:
-            turns[int(rest[0])].end = (now, rest[2])
-    return turns, now
-
-
-def logged(cycle: Cycle, window: Window, texts: Texts) -> Logged:
-    """The expected entries of a log for a cycle's turn."""
-    flushed = cycle.is_flushed()
-    stages = {
-        name: cycle.number + k
-        for k, name in enumerate(STAGES[:2] if flushed else STAGES)
-        if cycle.number + k < window.end
-    }
-    end = cycle.number + (2 if flushed else 5)
-    said = {"0": texts.turn(cycle), "1": f"cycle {cycle.number}, {cycle.time} ns"}
-    return Logged(
-        str(cycle.turn.thread), said, stages, (end, str(int(flushed))) if end < window.end else None
-    )
-
-
 def wrong_konata(shown: str, window: Window, texts: Texts) -> Wrong:
     yield from differs("konata rules", kanata.first_fault(shown.splitlines(keepends=True)), None)
-    turns, end = read_log(shown)
-    yield from differs("konata end", end, window.end)
-    wanted = [
-        logged(cycle, window, texts) for cycle in window.shown() if cycle.thread() is not None
-    ]
-    yield from differs("konata turns", len(turns), len(wanted))
-    for turn, want in zip(turns, wanted):
-        yield from differs("konata turn", turn, want)
+    ids: dict[int, int] = {}  # of the turns, by their cycles
+    wanted = ["Kanata\t0004", f"C=\t{window.first}"]
+    flushed = {cycle.number: cycle.is_flushed() for cycle in window.shown()}
+    for cycle in window.shown():
+        number = cycle.number
+        ends = [(at, how) for at, how in ((number - 5, False), (number - 2, True)) if at in ids]
+        wanted += [f"R\t{ids[at]}\t{ids[at]}\t{how:d}" for at, how in ends if flushed[at] == how]
+        if cycle.thread() is not None:
+            own = ids[number] = len(ids)
+            wanted += [f"I\t{own}\t{own}\t{cycle.thread()}", f"L\t{own}\t0\t{texts.turn(cycle)}"]
+            wanted.append(f"L\t{own}\t1\tcycle {number}, {cycle.time} ns")
+        for k, stage in enumerate(STAGES):
+            if number - k in ids and (k < 2 or not flushed[number - k]):
+                wanted.append(f"S\t{ids[number - k]}\t0\t{stage}")
+        wanted.append("C\t1")
+    yield from differs("konata log", shown.split("\n"), [*wanted, ""])
 
 
-def class_of(cycle: Cycle) -> str:
-    """The classes of a turn's cell."""
-    kinds = {"flushed": "f", "held": "h", "trap": "t"}
-    kind = "f" if cycle.is_flushed() else kinds.get(cycle.outcome().split()[0], "i")
-    return f"{kind} d" if cycle.is_donated() else kind
-
-
-Cell = tuple[str, int, int, int, int, str]
-"""A box of the picture: its class, place and size, and its title."""
-
-
-def box_of(node: ElementTree.Element) -> Cell:
-    x, y, width, height = (int(node.get(name, "")) for name in ("x", "y", "width", "height"))
-    return node.get("class", ""), x, y, width, height, "".join(node.itertext())
-
-
-def wrong_svg(shown: str, window: Window, texts: Texts) -> Wrong:
-    root = ElementTree.fromstring(shown)
-    space = "{http://www.w3.org/2000/svg}"
-    boxes = [
-        box_of(node)
-        for node in root.iter(f"{space}rect")
-        if node.get("class") and int(node.get("y", "0")) < LEGEND
-    ]
-    cells = {LEFT + COLUMN * k: cycle for k, cycle in enumerate(window.shown())}
-    wanted: list[Cell] = []
-    for x, cycle in cells.items():
-        wanted += [
-            ("z", x, 52 + 18 * k, 12, 18, "")
-            for k, state in enumerate(cycle.threads)
-            if state.asleep
-        ]
-        if (thread := cycle.thread()) is not None:
-            title = f"cycle {cycle.number}, {cycle.time} ns: {texts.turn(cycle)}"
-            wanted.append((class_of(cycle), x, 53 + 18 * thread, 12, 16, title))
-    yield from differs("svg boxes", len(boxes), len(wanted))
-    for box, want in zip(boxes, wanted):
-        yield from differs("svg box", box, want)
-    yield from wrong_frame(root, space, window, cells)
-
-
-def wrong_frame(
-    root: ElementTree.Element, space: str, window: Window, cells: dict[int, Cycle]
-) -> Wrong:
-    """What is wrong around the boxes of a picture: slots, numbers, lines and the size."""
-    written = [
-        (int(node.get("x", "")), int(node.get("y", "")), node.text)
-        for node in root.iter(f"{space}text")
-    ]
-    slots = [(x + 3, 47, cycle.slot().removeprefix("T")) for x, cycle in cells.items()]
-    yield from differs(
-        "svg slots", [text for text in written if text[1] == 47 and text[0] >= LEFT], slots
-    )
-    marked = [
-        (x, cycle)
-        for x, cycle in cells.items()
-        if x == LEFT or cycle.number % 10 == 0 and x >= LEFT + TIME_WIDTH
-    ]
-    for y, name in ((11, "number"), (24, "time")):
-        numbers = [(x, y, str(getattr(cycle, name))) for x, cycle in marked]
-        yield from differs(
-            f"svg {name}s", [text for text in written if text[1] == y and text[0] >= LEFT], numbers
-        )
-    lines = [node.get("d") for node in root.iter(f"{space}path")]
-    yield from differs("svg lines", lines, [f"M{x} 28V196" for x, _ in marked])
-    width = max(LEAST_WIDTH, LEFT + COLUMN * len(window) + TIME_WIDTH)
-    yield from differs("svg size", (root.get("width"), root.get("height")), (str(width), "240"))
-
-
-FORMS = {"text": wrong_text, "vcd": wrong_vcd, "konata": wrong_konata, "svg": wrong_svg}
+FORMS = {"text": wrong_text, "vcd": wrong_vcd, "konata": wrong_konata}

@@ -1,12 +1,12 @@
-"""Compares each form of `flexpret_view` with the executable model of model/ and with the proved program.
+"""Compares the text of `flexpret_view`, and each form that is drawn from it, with the executable model of model/ and
+with the proved program.
 
 Setups with images are drawn at random, a third of them with much use of ports and moments, a third with words of any bits as
-code. For each the model computes the state of every cycle, and a few windows of each form are read back and compared with it: the
-text line by line, a value change dump signal by signal at each cycle, a log for Konata by the rules of kanata.py and turn by
-turn, a picture cell by cell. The proved program's `run`, `phases` and `dump` at some cycles are compared with the same, and the
+code. For each the model computes the state of every cycle, and a few windows in each form are read back and compared with it: the
+text with its states line by line, a value change dump signal by signal at each cycle, a log for Konata by the rules of kanata.py and turn by
+turn. The proved program's `run`, `phases` and `dump` at some cycles are compared with the same, and the
 instructions' texts must assemble to their words. If GTKWave's vcd2fst is installed, it reads some dumps too. Setup N of a
 seed is always the same, so --only N repeats one. The gate makes a short call. The status is 1 if something differs."""
-from __future__ import annotations
 
 import argparse
 import contextlib
@@ -19,10 +19,11 @@ from collections import Counter
 from collections.abc import Iterator, Sequence
 from dataclasses import dataclass, field
 from pathlib import Path
-from xml.etree import ElementTree
 
 from dev.program import TOP, built_program
-from dev.fuzz.view_forms import FORMS, OPEN, STAGES, Cycle, Dump, Run, Texts, Window, Wrong, differs
+from dev.fuzz.view_forms import FORMS, OPEN, Cycle, Dump, Run, Texts, Window, Wrong, differs
+from fptools.view.drawer import drawn
+from fptools.view.rows import STAGES, rows_of
 
 from model.assembler import assemble
 from model.drawn.code import addi, load, store
@@ -97,19 +98,13 @@ class Programs:
             )
         return ended.stdout
 
-    def turns(self, window: Window, form: str) -> str:
-        option = [] if form == "text" else [f"--{form}", "-"]
-        return self.call(
-            self.view,
-            ["turns", "a.toml", "--from", str(window.first), "--to", str(window.end), *option],
-        ).decode()
+    def turns(self, window: Window) -> str:
+        words = ["turns", "a.toml", "--from", str(window.first), "--to", str(window.end)]
+        return self.call(self.view, [*words, "--state"]).decode()
 
     def lines(self, name: str, cycles: int, *words: str) -> list[str]:
-        return (
-            self.call(self.command, [name, "a.toml", "--cycles", str(cycles), *words])
-            .decode()
-            .splitlines()
-        )
+        said = self.call(self.command, [name, "a.toml", "--cycles", str(cycles), *words])
+        return said.decode().splitlines()
 
     def assemble(self, source: str) -> bytes:
         (self.folder / "a.s").write_text(source)
@@ -130,7 +125,7 @@ def wrong_runs(programs: Programs, run: Run) -> Wrong:
     phases = [(int(line[:10]), line[11:]) for line in programs.lines("phases", count)]
     for cycle in run.cycles[: max(count - 1, 0)]:
         setting = next(setting for at, setting in reversed(phases) if at <= cycle.number)
-        yield from differs("phases", setting, f"{cycle.slots:08x} {cycle.modes:08x}")
+        yield from differs("phases", setting, f"{cycle.slots:08x} {cycle.state.modes:08x}")
 
 
 def stage_line(cycles: Sequence[Cycle], number: int) -> str:
@@ -152,21 +147,17 @@ def wrong_dump(programs: Programs, run: Run, number: int) -> Wrong:
     )
     stages = [stage_line(run.cycles, number - k) for k in range(1, 6)]
     stages[0] = stages[0][:2]
-    yield from differs(
-        "dump stages", [fields[name] for name in STAGES], [stage.strip() for stage in stages]
-    )
+    is_ = [fields[name] for name in STAGES]
+    yield from differs("dump stages", is_, [stage.strip() for stage in stages])
     cycle = run.cycles[number]
-    yield from differs(
-        "dump settings",
-        (fields["slots"], fields["modes"]),
-        (f"{cycle.slots:08x}", f"{cycle.modes:08x}"),
-    )
+    settings = (f"{cycle.slots:08x}", f"{cycle.state.modes:08x}")
+    yield from differs("dump settings", (fields["slots"], fields["modes"]), settings)
     words = [line.split() for line in programs.lines("dump", number) if line[0] == "T"]
     armed = {line[0]: (line[2], int(line[4], 16)) for line in words if line[1] == "armed"}
     latches = {line[0]: line[2] for line in words if line[1] == "latch"}
-    for k, state in enumerate(cycle.threads):
+    for k, state in enumerate(cycle.state.threads):
         moment, sleep = armed[f"T{k}"]
-        asleep = cycle.modes >> 2 * k & 1 == 1 or cycle.time < sleep
+        asleep = cycle.state.modes >> 2 * k & 1 == 1 or cycle.time < sleep
         latch = "open" if state.latch is None else f"{state.latch:08x}"
         wanted = ("-" if state.armed is None else f"{state.armed:016x}", state.asleep, latch)
         yield from differs("dump thread", (moment, asleep, latches[f"T{k}"]), wanted)
@@ -195,12 +186,9 @@ def sources(texts: Texts) -> Iterator[tuple[str, dict[int, int]]]:
     """Sources that have all texts, each at its address modulo the scratchpad's size, and the words that they have to give."""
     left = sorted(((pc % SMALL, pc, word), text) for (pc, word), text in texts.of.items())
     while left:
-        lines, words, others, at = (
-            list[str](),
-            dict[int, int](),
-            list[tuple[tuple[int, int, int], str]](),
-            0,
-        )
+        lines: list[str] = []
+        words: dict[int, int] = {}
+        others, at = left[:0], 0
         for (place, pc, word), text in left:
             if place in words:
                 others.append(((place, pc, word), text))
@@ -277,18 +265,20 @@ class Tally:
 
 def windows(
     chance: random.Random, cycles: Sequence[Cycle], period: int
-) -> Iterator[tuple[str, Window]]:
-    """All cycles as text, and of each form a window from cycle 0 on, one somewhere, and one of a single cycle or a few."""
+) -> Iterator[tuple[Sequence[str], Window]]:
+    """All cycles as text; and in each form a window from cycle 0 on, one somewhere, and one of a single cycle or a few."""
     end = len(cycles)
-    yield "text", Window(cycles, 0, end, period)
-    for form in FORMS:
-        first = chance.randrange(end)
-        few = chance.randrange(end)
-        yield form, Window(cycles, 0, chance.randrange(1, end + 1), period)
-        yield form, Window(cycles, first, chance.randrange(first + 1, end + 1), period)
-        yield form, Window(
-            cycles, few, min(end, few + chance.choice([1, 1, 2, 3, 4, 5, 6, 9])), period
-        )
+    yield ["text"], Window(cycles, 0, end, period)
+    first, few = chance.randrange(end), chance.randrange(end)
+    yield list(FORMS), Window(cycles, 0, chance.randrange(1, end + 1), period)
+    yield list(FORMS), Window(cycles, first, chance.randrange(first + 1, end + 1), period)
+    count = chance.choice([1, 1, 2, 3, 4, 5, 6, 9])
+    yield list(FORMS), Window(cycles, few, min(end, few + count), period)
+
+
+def draw(form: str, shown: str, window: Window) -> str:
+    """The window in a form, drawn from its text."""
+    return "".join(f"{line}\n" for line in drawn(form, rows_of(shown.splitlines()), window.first))
 
 
 def kind_of(cycle: Cycle) -> str:
@@ -318,10 +308,16 @@ class Fuzz:
         texts = Texts()
         self.count(setups=1, cycles=len(run.cycles))
         self.count(**Counter(kind_of(cycle) for cycle in run.cycles))
-        for index, (form, window) in enumerate(windows(chance, run.cycles, setup.period)):
-            self.try_window(
-                f"setup {number}", form, window, texts, index == 4 and number % EACH_FST == 0
-            )
+        with_fst = self.with_fst and number % EACH_FST == 0
+        for forms, window in windows(chance, run.cycles, setup.period):
+            where = f"setup {number}, from {window.first} to {window.end}"
+            shown = self.programs.turns(window)
+            for form in forms:
+                self.try_form(f"{where}, {form}", form, shown, window, texts)
+            if with_fst and forms != ["text"]:
+                self.count(fst=1)
+                self.tally.take(wrong_fst(self.programs, draw("vcd", shown, window)), where)
+                with_fst = False
         self.count(runs=THREADS)
         self.tally.take(wrong_runs(self.programs, run), f"setup {number}")
         for _ in range(4):
@@ -331,24 +327,11 @@ class Fuzz:
         self.count(texts=len(texts.of))
         self.tally.take(wrong_texts(self.programs, texts), f"setup {number}")
 
-    def try_window(
-        self, where: str, form: str, window: Window, texts: Texts, with_fst: bool
-    ) -> None:
-        where = f"{where}, {form} from {window.first} to {window.end}"
+    def try_form(self, where: str, form: str, shown: str, window: Window, texts: Texts) -> None:
         try:
-            shown = self.programs.turns(window, form)
-            self.tally.take(FORMS[form](shown, window, texts), where)
-            if form == "vcd" and with_fst and self.with_fst:
-                self.count(fst=1)
-                self.tally.take(wrong_fst(self.programs, shown), where)
-        except (
-            ValueError,
-            KeyError,
-            IndexError,
-            StopIteration,
-            RuntimeError,
-            ElementTree.ParseError,
-        ) as error:
+            text = shown if form == "text" else draw(form, shown, window)
+            self.tally.take(FORMS[form](text, window, texts), where)
+        except (ValueError, KeyError, IndexError, StopIteration, RuntimeError) as error:
             self.tally.take(iter([(f"{form} is no {form}", repr(error))]), where)
         self.count(**{form: 1, f"{form} cycles": len(window)})
 

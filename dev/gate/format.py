@@ -5,7 +5,6 @@ usage: python3 -m dev.gate.format [--check]
 With --check nothing is written. Other versions of black format in other ways, so one that isn't Debian 12's does
 nothing. Status: 1 with --check, a file has another form; 123 a file can't be read.
 """
-from __future__ import annotations
 
 import argparse
 import subprocess

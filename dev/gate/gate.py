@@ -26,7 +26,7 @@ from pathlib import Path
 from dev.gate.parts import COMMANDS, MODULES, OPTIONAL, PROGRAMS, Part, parts
 from dev.program import TOP
 
-from fptools.launch.sources import Checkout, kit_line, said_by
+from fptools.launch.up_to_date import Checkout, changes_of, kit_line, said_by
 
 APT_SECONDS = 600
 """The time limit of a call of apt-get."""
@@ -212,14 +212,7 @@ RECORD = TOP / "out" / "test.json"
 
 def here() -> tuple[str, list[str]]:
     """The commit of this checkout, and its tracked files that differ from it."""
-    words = ["git", "--no-optional-locks", "status", "--porcelain", "--untracked-files=no"]
-    try:
-        ran = subprocess.run(words, cwd=TOP, capture_output=True, text=True, check=False)
-    except OSError:
-        return "", []
-    return said_by(["git", "rev-parse", "HEAD"], TOP), sorted(
-        line[3:] for line in ran.stdout.splitlines()
-    )
+    return said_by(["git", "rev-parse", "HEAD"], TOP), list(changes_of(TOP))
 
 
 def write_record(

@@ -1,5 +1,4 @@
 """The parts of ./test, with the modules and commands that each needs."""
-from __future__ import annotations
 
 from collections.abc import Sequence
 from dataclasses import dataclass
@@ -131,7 +130,7 @@ def drawn() -> list[Part]:
             "60",
             "--seed",
             "2",
-            modules=["elftools", "jsonschema", "networkx"],
+            modules=["elftools", "jsonschema"],
             commands=["make", "riscv64-unknown-elf-gcc"],
         ),
         script("dev/fuzz/views_fuzz.py", "--seed", "1", "--count", "4"),
@@ -148,7 +147,7 @@ def drawn() -> list[Part]:
             "dev/fuzz/stacks.py",
             "1",
             "60",
-            modules=["elftools", "jsonschema", "networkx", "pytest"],
+            modules=["elftools", "jsonschema", "pytest"],
             commands=["riscv64-unknown-elf-gcc"],
         ),
         script("dev/gate/edge.py"),
@@ -174,7 +173,7 @@ def examples() -> list[Part]:
         Part(
             "examples/guides.sh",
             ["examples/guides.sh"],
-            modules=["elftools", "jsonschema", "networkx"],
+            modules=["elftools", "jsonschema"],
         ),
         Part(
             "examples/c/try.sh", ["examples/c/try.sh"], commands=["make", "riscv64-unknown-elf-gcc"]

@@ -165,15 +165,6 @@ class Tried:
         return {name: Answer(status, written[name]) for name, status in statuses.items()}
 
 
-def numbers_of(text: str) -> list[int]:
-    """The numbers of a list as 1-20,25,30."""
-    found: list[int] = []
-    for part in text.split(","):
-        first, _, last = part.partition("-")
-        found += range(int(first), int(last or first) + 1)
-    return found
-
-
 # ---------------------------------------------------------------- on the built program
 
 
@@ -225,12 +216,12 @@ def refuse_every(program: Path, some: list[Row], folder: Path) -> Iterator[tuple
         yield row, tally
 
 
-def refuse_some(numbers: list[int], some: list[Row], folder: Path) -> Iterator[tuple[Row, Tally]]:
-    """Refuses the allocations with these numbers, by `rt try`."""
+def refuse_some(some: list[Row], folder: Path) -> Iterator[tuple[Row, Tally]]:
+    """Refuses the first eight allocations, by `rt try`."""
     tried = Tried(some, folder)
     ample = tried.answers(0)
     tallies = {row.name: Tally() for row in some}
-    for number in numbers:
+    for number in range(1, 9):
         for name, answer in tried.answers(number).items():
             tallies[name].add(number, answer, ample[name])
     yield from ((row, tallies[row.name]) for row in some)
@@ -239,21 +230,13 @@ def refuse_some(numbers: list[int], some: list[Row], folder: Path) -> Iterator[t
 def main() -> int:
     parser = argparse.ArgumentParser(description=__doc__)
     parser.add_argument(
-        "--numbers",
-        default="1-8",
-        help="which allocations rt try refuses, as 1-20,25,30 (left out: 1-8)",
-    )
-    parser.add_argument(
-        "--row", action="append", metavar="COMMAND", help="a row alone, may be repeated"
-    )
-    parser.add_argument(
         "--built", action="store_true", help="refuse every allocation on the built program"
     )
     parser.add_argument(
         "--program", help="the built program (left out: the one that ./flexpret and rt ci leave)"
     )
     options = parser.parse_args()
-    some = [row for row in rows() if not options.row or row.name in options.row]
+    some = rows()
     wrong = 0
     with tempfile.TemporaryDirectory(prefix="refused-") as name:
         folder = Path(name)
@@ -263,7 +246,7 @@ def main() -> int:
             refuse_every(built_program(options.program), some, folder) if options.built else None
         )
         print(f'{"":8}{"refusals":>10}{"status 9":>10}{"own answer":>12}{"else":>6}')
-        for row, tally in every or refuse_some(numbers_of(options.numbers), some, folder):
+        for row, tally in every or refuse_some(some, folder):
             print(
                 f"{row.name:8}{tally.tried:10}{tally.refused:10}{tally.own:12}{len(tally.wrong):6}",
                 flush=True,

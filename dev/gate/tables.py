@@ -1,14 +1,11 @@
 """Reads the tables of rows: the files and command lines of a row."""
-import re
 import shlex
 from dataclasses import dataclass, field
 
 from dev.program import TOP
+from model.tables.forms import expanded
 
-FOLDERS = tuple(TOP / "crates" / name / "data" for name in ("unit_rows", "command_rows"))
-
-ESCAPED = re.compile(rb"\\(x[0-9a-f]{2}|.)", re.DOTALL)
-LETTERS = {b"n": b"\n", b"r": b"\r", b"t": b"\t"}
+FOLDERS = tuple(TOP / "crates" / name / "data" for name in ("test_units", "test_commands"))
 
 
 @dataclass
@@ -23,27 +20,6 @@ class Case:
         """The case's setup and image, if it has both."""
         setup, image = self.files.get("a.toml"), self.files.get("a.fpx")
         return None if setup is None or image is None else (setup, image)
-
-
-def expanded(digits: str) -> bytes:
-    """The bytes of hexadecimal digits, where a full stop is four bytes of 0."""
-    return bytes.fromhex(digits.replace(".", "00000000"))
-
-
-def repeated(pieces: str) -> bytes:
-    """The bytes of pieces of such digits with spaces between them. A piece `DIGITS*N` is repeated N times."""
-    split = (piece.partition("*") for piece in pieces.split(" "))
-    return b"".join(expanded(digits) * int(times or 1) for digits, _, times in split)
-
-
-def unescaped(text: str) -> bytes:
-    """The bytes of a text in which `\\n`, `\\r`, `\\t`, `\\\\` and `\\x` with two digits are escapes of one byte."""
-
-    def one(found: re.Match[bytes]) -> bytes:
-        said = found[1]
-        return bytes([int(said[1:], 16)]) if len(said) == 3 else LETTERS.get(said, said)
-
-    return ESCAPED.sub(one, text.encode())
 
 
 def lines_of(table: str) -> list[str]:

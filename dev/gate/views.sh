@@ -1,6 +1,6 @@
 #!/usr/bin/env bash
 # Compares the view with the stored files of the examples: the lines and the picture of docs/VIEW.md, a value change dump and a log
-# for Konata. Checks the logs of all examples against the rules of the format, and their pictures as XML. Checks also the additions of
+# for Konata, which the script draws. Checks the logs of all examples against the rules of the format, and their pictures as XML. Checks also the additions of
 # ./flexpret-view and tools/fp_view. FLEXPRET_VIEW names the program, if it isn't the one that ./flexpret-view builds.
 set -u
 cd "$(dirname "${BASH_SOURCE[0]}")/../.." || exit 1
@@ -16,11 +16,14 @@ wrong() {
     failed=1
 }
 
+# The script with this program.
+draws() { ./flexpret-view --quiet --use "$view" turns "$@"; }
+
 # shows FILE ARGUMENT..: compares the view of these arguments with a file.
 shows() {
     local file=$1
     shift
-    "$view" turns "$@" | cmp - "$file" || failed=1
+    draws "$@" | cmp - "$file" || failed=1
 }
 
 shows examples/drive.vcd examples/drive.toml --from 0 --to 77 --vcd -
@@ -32,21 +35,21 @@ shows <(sed -n '/^    \$ .*turns .*sleep.toml/,/^$/{/^    \$/d; /^$/d; s/^    //
 refuses() {
     local line=$1 said
     shift
-    said=$("$view" turns examples/drive.toml "$@" 2>&1)
-    [ "$?:$said" = "2:flexpret_view: $line" ] || wrong "$*: ${said@Q}"
+    said=$(draws examples/drive.toml "$@" 2>&1)
+    [ "$?:$said" = "2:$line" ] || wrong "$*: ${said@Q}"
 }
 
-refuses "--from isn't below --to" --from 5 --to 5
-refuses "a picture has at most 2000 cycles" --from 0 --to 2001 --svg -
+refuses "flexpret_view: --from isn't below --to" --from 5 --to 5
+refuses "flexpret-view: --from 0 --to 2001: a picture has at most 2000 cycles" --from 0 --to 2001 --svg -
 
 for setup in examples/*.toml examples/c/pid.toml examples/device/*.toml; do
     name=$work/$(basename "$setup" .toml)
-    "$view" turns "$setup" --from 1 --to 500 --konata "$name.konata" || wrong "no log of $setup"
-    "$view" turns "$setup" --from 1 --to 500 --svg "$name.svg" || wrong "no picture of $setup"
+    draws "$setup" --from 1 --to 500 --konata "$name.konata" || wrong "no log of $setup"
+    draws "$setup" --from 1 --to 500 --svg "$name.svg" || wrong "no picture of $setup"
     tools/fp_view "$setup" --view "$view" --from 1 --to 500 --mark 4:8=9 --stages --svg "$name.more" || wrong "no stages of $setup"
     # But for the signals that are added, the dump is the view's.
     tools/fp_view "$setup" --view "$view" --from 1 --to 500 --vcd - | sed '1,/enddefinitions/d; / *[TCWADHUq].$/d' |
-        cmp - <("$view" turns "$setup" --from 1 --to 500 --vcd - | sed '1,/enddefinitions/d') || failed=1
+        cmp - <(draws "$setup" --from 1 --to 500 --vcd - | sed '1,/enddefinitions/d') || failed=1
 done
 python3 -m dev.fuzz.kanata "$work"/*.konata || failed=1
 python3 - "$work"/*.svg "$work"/*.more <<'END' || failed=1
@@ -70,7 +73,7 @@ PYTHONPATH=tools python3 - "$work/top" <<'END' || failed=1
 import sys
 from pathlib import Path
 
-from fptools.launch.sources import Checkout
+from fptools.launch.up_to_date import Checkout
 
 checkout = Checkout(Path(sys.argv[1]), "flexpret_view")
 checkout.write_stamp("the kit of the test", checkout.listed())

@@ -3,6 +3,8 @@ import struct
 from collections.abc import Sequence
 from dataclasses import dataclass
 
+from model.instructions import b_word, j_word
+
 NOP, COUNT, RETURN = 0x13, 0xFFF28293, 0x8067
 """`addi x0, x0, 0`, `addi x5, x5, -1`, `jalr x0, 0(x1)`."""
 
@@ -52,29 +54,12 @@ class Section:
 
 def branch(offset: int) -> int:
     """`bne x5, x0, OFFSET`."""
-    o = offset & 0x1FFF
-    return (
-        (o >> 12 & 1) << 31
-        | (o >> 5 & 63) << 25
-        | 5 << 15
-        | 1 << 12
-        | (o >> 1 & 15) << 8
-        | (o >> 11 & 1) << 7
-        | 0x63
-    )
+    return b_word(1, 5, 0, offset)
 
 
 def call(offset: int) -> int:
     """`jal x1, OFFSET`."""
-    o = offset & 0x1FFFFF
-    return (
-        (o >> 20) << 31
-        | (o >> 1 & 0x3FF) << 21
-        | (o >> 11 & 1) << 20
-        | (o >> 12 & 0xFF) << 12
-        | 1 << 7
-        | 0x6F
-    )
+    return j_word(1, offset)
 
 
 def short_loops() -> Section:

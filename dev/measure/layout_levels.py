@@ -7,7 +7,6 @@ with --clang also clang. Status 1: not all are accepted, or one does another thi
 
     python3 -m dev.measure.layout_levels                    # about eight minutes of a processor
     python3 -m dev.measure.layout_levels --rotate 4 -O2     # only these levels"""
-from __future__ import annotations
 
 import argparse
 import sys

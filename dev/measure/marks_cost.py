@@ -7,7 +7,6 @@ the sums of the bounds, the geometric and the arithmetic mean of the ratios, the
 
     python3 -m dev.measure.marks_cost            # about four minutes of a processor
     python3 -m dev.measure.marks_cost O2"""
-from __future__ import annotations
 
 import argparse
 import math

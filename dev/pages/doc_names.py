@@ -8,7 +8,6 @@ of the file before it in its line, or one in the heading of the section, or any.
 "definition" and "file", a file of the row must declare the name at the beginning of each piece of code of the
 definition. Status: 0 all are there; 1 one isn't; 2 a page can't be read.
 """
-from __future__ import annotations
 
 import argparse
 import re

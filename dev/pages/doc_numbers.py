@@ -7,7 +7,6 @@ FOLDER has the pages, docs/ if it isn't given. Each fact is read from the source
 where the code gives it no name. A line names each difference, and each row that a table lacks. Status: 0 nothing
 differs; 1 something does; 2 a page, a table or a constant isn't where it is looked for.
 """
-from __future__ import annotations
 
 import re
 import sys
@@ -17,6 +16,7 @@ from pathlib import Path
 
 from dev.program import TOP
 
+from fptools.limits import MOST_PICTURE
 from model.images import MOST_BYTES as MOST_IMAGE_BYTES
 from model.instructions import decode, lag
 from model.setups import LARGE, SMALL
@@ -271,13 +271,13 @@ LIMITS = (
 
 def limits(pages: Pages) -> Iterator[str]:
     """Limits, as the pages write them."""
-    code = pages.constants(*{name for _, _, name in LIMITS}, "MOST_COLUMNS", "DEEPEST")
+    code = pages.constants(*{name for _, _, name in LIMITS}, "DEEPEST")
     wanted = [
         *((page, words, code[name]) for page, words, name in LIMITS),
         ("dev/REFUSALS.md", "more than {} bytes, or", MOST_IMAGE_BYTES[SMALL]),
         ("dev/REFUSALS.md", "bytes, or {} with", MOST_IMAGE_BYTES[LARGE]),
         ("VIEW.md", "`to` is at most {}", code["MOST_CYCLES"] - 3),
-        ("VIEW.md", "at most {} cycles", code["MOST_COLUMNS"]),
+        ("VIEW.md", "at most {} cycles", MOST_PICTURE),
     ]
     for page, words, value in wanted:
         if words.format(f"{value:,}") not in pages.text(page):

@@ -6,7 +6,6 @@ usage: python3 -m dev.pages.figures [--check] [FOLDER]
 model has, over examples/c/pid.toml. `section.svg` and `flow.svg` are drawn from the lists in this file. FLEXPRET
 names the program; without it the model runs. With --check nothing is written: status 1 if a stored figure differs.
 """
-from __future__ import annotations
 
 import argparse
 import os

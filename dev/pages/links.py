@@ -5,7 +5,6 @@ usage: python3 -m dev.pages.links [PAGE..]
 Without a page: every Markdown file of the repository. Links with a scheme, as https:, aren't followed. Status: 0
 all links lead somewhere; 1 some don't; 2 a page can't be read.
 """
-from __future__ import annotations
 
 import re
 import sys

@@ -9,7 +9,6 @@ WORD EFFECT` is a line of the trace. Each must be in the trace of `FLEXPRET`, or
 blocks are placed at address 0; a block of one label at 0x30, `late` or `handler`, is placed there. Status: 0 all
 lines are there; 1 some aren't; 2 the page can't be read.
 """
-from __future__ import annotations
 
 import os
 import re

@@ -8,8 +8,7 @@ if [ $# -ne 1 ]; then
     sed -n '2,5s/^# //p' "$0" >&2
     exit 2
 fi
-cd "$(dirname "${BASH_SOURCE[0]}")/.." || exit 1
-view=${FLEXPRET_VIEW:-crates/flexpret_view/out/flexpret_view}
+cd "$(dirname "${BASH_SOURCE[0]}")/../.." || exit 1
 mkdir -p "$1"
 to=$(cd "$1" && pwd)
 work=$(mktemp -d)
@@ -41,7 +40,7 @@ END
 # Draws the cycles of a setup, and checks the picture.
 draws() {
     local name=$1 setup=$2 from=$3 to_cycle=$4 said
-    "$view" turns "$setup" --from "$from" --to "$to_cycle" --svg "$work/$name.svg" || exit 1
+    ./flexpret-view --quiet turns "$setup" --from "$from" --to "$to_cycle" --svg "$work/$name.svg" || exit 1
     browser --window-size=$((60 + 12 * (to_cycle - from) + 100)),260 --screenshot="$to/$name.png" "file://$work/$name.svg"
     if browser --dump-dom "file://$work/$name.svg" | grep -q '<parsererror'; then
         echo "$name: the browser can't read the picture"

@@ -8,7 +8,6 @@ core in SystemVerilog and the documents. Data of tests and generated files aren'
 instruction by a rule for all others doesn't name it: look at `fallbacks`, which are listed last, with the pages that
 count the timing instructions. Status: 0 places were found; 1 none was; 2 usage error.
 """
-from __future__ import annotations
 
 import argparse
 import re

@@ -9,7 +9,6 @@ too. A piece of code or a link's target counts as one word of its sentence; bloc
 CHANGELOG, man pages and `--help` a semicolon ends a sentence too, since it separates items. Status: 0 the limits hold;
 1 one doesn't; 2 a page can't be read.
 """
-from __future__ import annotations
 
 import argparse
 import ast

@@ -16,13 +16,17 @@ done
 
 work=$(mktemp -d)
 trap 'rm -rf "$work"' EXIT
+
+. "$top/examples/shown.bash"
+FLEXPRET=$(as_script "$program" "$work/script" "$top")
+export FLEXPRET
 # Without the user's own settings of gdb, and with time enough on a busy machine.
-export HOME=$work FLEXPRET=$program
+export HOME=$work
 echo 'set remotetimeout 60' >"$work/.gdbinit"
 mkdir "$work/examples"
 cp -R "$here" "$work/examples/c"
 ln -s "$top/tools" "$work/tools"
-ln -s "$program" "$work/flexpret"
+ln -s "$FLEXPRET" "$work/flexpret"
 cd "$work" || exit 1
 
 # The page shows addresses and cycles of one compiler.
@@ -32,8 +36,6 @@ if ! cmp -s examples/c/pid.elf "$here/pid.elf"; then
     echo "debug.sh: nothing was tried, since this compiler makes another pid.elf than the repository's"
     exit 0
 fi
-
-. "$top/examples/shown.bash"
 
 read_page "$top/docs/DEBUG.md"
 exit $failed

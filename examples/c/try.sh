@@ -1,12 +1,13 @@
 #!/usr/bin/env bash
-# Runs each command that docs/C.md shows, on a copy of this folder, and compares what it writes with the page. The gate
-# does so too. FLEXPRET names the program, if it isn't ../../flexpret, and FLEXPRET_VIEW the view, if it isn't
-# ../../flexpret-view. Without gcc for RISC-V it says so and stops with success.
+# Runs each command that docs/C.md shows, on a copy of this folder, and compares what it writes with the page: by the script
+# ./flexpret around the program. The gate does so too. FLEXPRET names the program, if it isn't ../../flexpret, and FLEXPRET_VIEW
+# the program of the view, if it isn't the one that ../../flexpret-view leaves. Without gcc for RISC-V it says so and stops with
+# success.
 set -u
 here=$(dirname "$(readlink -f "${BASH_SOURCE[0]}")")
 top=$(readlink -f "$here/../..")
 program=$(readlink -f "${FLEXPRET:-$top/flexpret}")
-view=$(readlink -f "${FLEXPRET_VIEW:-$top/flexpret-view}")
+if [ -n "${FLEXPRET_VIEW:-}" ]; then FLEXPRET_VIEW=$(readlink -f "$FLEXPRET_VIEW") && export FLEXPRET_VIEW; fi
 
 for tool in make riscv64-unknown-elf-gcc; do
     if ! command -v "$tool" >/dev/null; then
@@ -17,15 +18,17 @@ done
 
 work=$(mktemp -d)
 trap 'rm -rf "$work"' EXIT
-mkdir "$work/examples"
-cp -R "$here" "$work/examples/c"
-ln -s "$top/tools" "$work/tools"
-ln -s "$program" "$work/flexpret"
-ln -s "$view" "$work/flexpret-view"
-cd "$work" || exit 1
-make -s -C examples/c clean
 
 . "$top/examples/shown.bash"
+FLEXPRET=$(as_script "$program" "$work/script" "$top")
+export FLEXPRET
+mkdir "$work/examples"
+cp -R "$here" "$here/../own" "$work/examples"
+ln -s "$top/tools" "$work/tools"
+ln -s "$FLEXPRET" "$work/flexpret"
+ln -s "$top/flexpret-view" "$work/flexpret-view"
+cd "$work" || exit 1
+make -s -C examples/c clean
 
 # The page shows addresses of one compiler. With another one the sections 1 to 4 are left out, and section 5 is tried on the
 # repository's executable.

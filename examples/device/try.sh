@@ -9,6 +9,8 @@ top=$(readlink -f "$here/../..")
 program=$(readlink -f "${FLEXPRET:-$top/flexpret}")
 built=${1:-}
 
+. "$top/examples/shown.bash"
+
 # The folder of the calls: links to the repository's, but for the example's own folder.
 work=$(mktemp -d)
 trap 'rm -rf "$work"' EXIT
@@ -16,11 +18,9 @@ mkdir -p "$work/top/examples"
 ln -s "$top/crates" "$top/crates.txt" "$work/top"
 ln -s "$top/tools" "$work/top"
 ln -s "$top/examples/c" "$top/examples/loop" "$top/examples/plant" "$work/top/examples"
-ln -s "$program" "$work/top/flexpret"
+ln -s "$(as_script "$program" "$work/script" "$top")" "$work/top/flexpret"
 cp -R "$here" "$work/top/examples/device"
 cd "$work/top" || exit 1
-
-. "$top/examples/shown.bash"
 
 # Runs a command, and compares what it writes and the file that it makes.
 try_command() {

@@ -2,7 +2,6 @@
 """Reads the trace of a controller from standard input, and writes what it loaded and stored at its port: a line
 `NANOSECONDS SET_POINT VOLTAGE SPEED` for each store, in numbers with four decimals. The set point is that of
 t0_motor.c."""
-from __future__ import annotations
 
 import site
 import sys

@@ -13,7 +13,8 @@ work=$(mktemp -d)
 trap 'rm -rf "$work"' EXIT
 
 for setup in motor quiet; do
-    "$program" "examples/loop/$setup.toml" examples/loop/plants.txt 0 100 160000 > "$work/$setup.trace"
+    "$program" "examples/loop/$setup.toml" --plants examples/loop/plants.txt --thread 0 --every 100 --cycles 160000 \
+        > "$work/$setup.trace"
 done
 cmp "$work/motor.trace" "$work/quiet.trace"
 examples/loop/loop_trace.py < "$work/motor.trace" > "$work/loop.txt"

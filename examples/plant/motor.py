@@ -2,7 +2,6 @@
 """The motor of crates/example_plants as a plant of tools/fp_plant, whose load comes in step 1000.
 
 Numbers have 16 bits after the binary point."""
-from __future__ import annotations
 
 import sys
 

@@ -13,7 +13,8 @@ work=$(mktemp -d)
 trap 'rm -rf "$work"' EXIT
 
 echo '0 motor 1000' >"$work/plants.txt"
-"$program" examples/loop/motor.toml "$work/plants.txt" 0 100 160000 >"$work/proved.trace"
+"$program" examples/loop/motor.toml --plants "$work/plants.txt" --thread 0 --every 100 --cycles 160000 \
+    >"$work/proved.trace"
 
 # try PLANT: the command of a plant.
 try() {

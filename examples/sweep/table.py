@@ -4,7 +4,6 @@ are missing. The bound is that of the loop's period, from the moment of a wait t
 the budget less the bound.
 
 Setups and bounds are read by the package fptools of tools/."""
-from __future__ import annotations
 
 import argparse
 import site

@@ -10,7 +10,7 @@ from pathlib import Path
 import pytest
 from fptools.testing.common import TOP
 from fptools.budget.files import Budget, PeriodOf
-from fptools.budget.budgets import Judge
+from fptools.budget.judge import Judge
 from fptools.files.elf import Program
 from fptools.files.image import read_image
 from fptools.files.lint import refusals

@@ -175,13 +175,13 @@ def test_definitions_and_their_files_are_in_the_crates() -> None:
     "page, old, new, told",
     [
         ("DEFINITIONS.md", "| Lag.antt |", "| Lags.antt |", "Lags.antt: no such file"),
-        ("DEFINITIONS.md", "| fp_io: Memory.antt |", "| fp_setup: Memory.antt |", "Memory.antt: no such file"),
+        ("DEFINITIONS.md", "| fp_io: Causes.antt |", "| fp_setup: Causes.antt |", "Causes.antt: no such file"),
         ("DEFINITIONS.md", "`ins w`", "`inst w`", "inst: not declared in Table.antt"),
         ("DEFINITIONS.md", "(Relation.antt)", "(Relations.antt)", "Relations.antt: no such file"),
         ("DEFINITIONS.md", "| fp_ports: port.rt |", "| fp_ports: lib.rt |", "word_at: not declared in fp_ports: lib.rt"),
-        ("ARCHITECTURE.md", "rv_decode/specs/Lag.antt", "rv_exec/specs/Lag.antt", "Lag.antt: no such file"),
-        ("ARCHITECTURE.md", "| `edges_of` |", "| `edges` |", "edges: not declared in region_tree/specs/Edges.antt"),
-        ("LIBRARY.md", "command_files/src/bound.rt", "command_files/src/bounds.rt", "bounds.rt: no such file"),
+        ("ARCHITECTURE.md", "command_line/specs/Commands.antt", "fp_lex/specs/Commands.antt", "Commands.antt: no such file"),
+        ("DEFINITIONS.md", "| `edges_of` |", "| `edges` |", "edges: not declared in region_tree: Edges.antt"),
+        ("LIBRARY.md", "commands/src/bound.rt", "commands/src/bounds.rt", "bounds.rt: no such file"),
     ],
 )  # fmt: skip
 def test_another_definition_or_file_is_reported(

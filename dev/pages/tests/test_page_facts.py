@@ -12,6 +12,7 @@ from typing import Any
 
 import pytest
 from dev.gate.parts import parts
+from fptools import PACKAGES
 from fptools.budget import files
 from fptools.files import lint
 from fptools.testing.common import TOP, document
@@ -142,6 +143,63 @@ def test_the_gate_runs_the_model() -> None:
     assert "The gate runs its tests" in page and "--model" in page
 
 
+def test_the_packages_are_those_that_the_tools_import() -> None:
+    """Pages and Makefiles name Debian's packages of the tools, and no other one for Python."""
+    debian = {name for _, name in PACKAGES.values()}
+    told = [TOP / "README.md", document("C.md"), TOP / "tools/README.md"]
+    for page in told:
+        assert debian - {"python3-jinja2"} <= set(
+            re.findall(r"python3-\w+", page.read_text())
+        ), page
+    makefiles = (TOP / "examples").rglob("Makefile")
+    for page in [*told, *makefiles, document("VIEW.md"), TOP / "tools/fptools/__init__.py"]:
+        assert set(re.findall(r"python3-\w+", page.read_text())) <= debian, page
+    assert "Python 3.11 and two packages" in (TOP / "tools/README.md").read_text()
+
+
+def test_only_bounds_refuse_a_thread_without_a_slot(tmp_path: Path) -> None:
+    assert (
+        "| 2 NoSlot | `bound`, `calls`: no slot is the thread's |"
+        in document("COMMANDS.md").read_text()
+    )
+    setup = tmp_path / "none.toml"
+    setup.write_text((TOP / "examples/sum.toml").read_text().replace('"T0", "S"', '"S", "S"', 1))
+    assert asked("solo", str(setup), "--thread", "0", "--cycles", "50") == ""
+    words = ["bound", str(setup), "--thread", "0", "--from", "0x10", "--to", "0x3c"]
+    ran = subprocess.run(
+        [sys.executable, "-m", "model", *words],
+        cwd=TOP,
+        capture_output=True,
+        text=True,
+        check=False,
+    )
+    assert (ran.returncode, ran.stdout) == (3, "refused section 2 NoSlot\n")
+
+
+def test_each_assumption_is_in_the_list_that_formats_names() -> None:
+    assert "what isn't checked: [tools](../tools/README.md#when-a-budget-is-unknown)" in text_of(
+        "FORMATS.md"
+    )
+    page = (TOP / "tools/README.md").read_text()
+    part = page.split("## When a budget is UNKNOWN\n")[1].split("\n## ")[0]
+    for it in files.Assumption:
+        assert f'"{it.value}"' in part, it
+
+
+def test_the_parts_of_the_program_in_c_are_in_its_file() -> None:
+    blocks = re.findall(r"^```c\n(.*?)^```$", document("C.md").read_text(), re.M | re.S)
+    source = (TOP / "examples/own/t0_motor.c").read_text()
+    assert len(blocks) == 2 and all(it in source for it in blocks)
+
+
+def test_the_sweep_names_what_its_scripts_have() -> None:
+    page = (TOP / "examples/sweep/README.md").read_text()
+    script = (TOP / "examples/sweep/make.py").read_text()
+    for name in ("SETUP", "LOOP_NS"):
+        assert f"`{name}`" in page and re.search(rf"^{name} = ", script, re.M)
+    assert (TOP / "examples/sweep/job.sh").read_text().count("./flexpret ") == 2
+
+
 def rows_under(page: Path, heading: str) -> list[str]:
     """The first cell of each row of the tables under a heading, without code marks."""
     part = page.read_text().split(f"\n{heading}\n", 1)[1].split("\n## ", 1)[0]
@@ -228,7 +286,7 @@ def test_one_word_has_one_meaning() -> None:
             assert found is None, f"{page.name}: {found[0] if found else ''}: {instead}"
 
 
-UNITS, COMMANDS = TOP / "crates/unit_rows/data", TOP / "crates/command_rows/data"
+UNITS, COMMANDS = TOP / "crates/test_units/data", TOP / "crates/test_commands/data"
 
 COUNTS = [
     (UNITS / "decode.txt", r"^(?!.*\bIllegal).*\t", "{} words of GNU as"),
