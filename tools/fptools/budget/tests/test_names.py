@@ -137,8 +137,11 @@ def test_the_json_document_and_the_junit_file(named: Named) -> None:
     ]  # fmt: skip
     ((properties,),) = ElementTree.parse(junit).getroot()
     found = {it.get("name"): it.get("value") or "" for it in properties}
-    note = "assumes stack fits: whether the stack fits is unknown: 0x64 chosen+0x18 (callee.c:13): a jump by a register"
-    assert found.pop("note 1").startswith(note)
+    mtvec = "the words that set mtvec (0x10 start0+0x10 (start.s:13))"
+    assert found.pop("note 1") == f"assumes no jump by a register leads between {mtvec}"
+    jump = "0x64 chosen+0x18 (callee.c:13): a jump by a register"
+    stack = f"assumes stack fits: whether the stack fits is unknown: {jump}"
+    assert found.pop("note 2").startswith(stack)
     assert found == {"bound": "412", "budget": "500", "slack": "88", "ns": "4120"}
 
 

@@ -246,8 +246,9 @@ def test_names_and_the_view_are_shown(
     view = tmp_path / "view"
     row = "        17           170 S     4  0  3  1  2  T4 00000104 ffdff06f jal x0, 0x00000100         -"
     head = "     cycle            ns slot  F  D  E  M  W  turn"
+    state = "aaa0" + " 0,-,00000000,00000000" * 8
     view.write_text(
-        f"#!/bin/sh\necho \"$*\" > {tmp_path}/asked\nprintf '{head}\\t10\\n{row}\\t-\\n'\n"
+        f'#!/bin/sh\necho "$*" > {tmp_path}/asked\n' f"printf '{head}\\t10\\n{row}\\t{state}\\n'\n"
     )
     view.chmod(0o755)
     record = record_run(flexpret, tmp_path, "examples/drive.toml", 77)

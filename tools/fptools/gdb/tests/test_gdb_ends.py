@@ -140,7 +140,7 @@ def test_a_program_that_is_gone_ends_no_session(flexpret: str, tmp_path: Path) -
         program.unlink()
         assert client.go_to(9_000_000).startswith("E.")
         bound = f"qRcmd,{f'bound {STEP_BEGIN} {STEP_END}'.encode().hex()}"
-        assert client.ask(bound).startswith("E.[Errno 2]")
+        assert client.ask(bound).startswith(f"E.the program {program}: No such file or directory")
         assert client.registers(0)["cycle"] == 1
 
 
