@@ -44,6 +44,22 @@ def test_cycle_0_is_the_first_one_even_if_nothing_is_fetched(tmp_path: Path) -> 
     assert int(trace[0][:10]) == 1
 
 
+def test_the_lines_of_a_dump_are_those_of_the_example_that_the_page_names() -> None:
+    """The codes of the table: whole lines, or the beginnings of lines where `..` follows or there is one word only."""
+    page = document("COMMANDS.md").read_text()
+    _, _, part = page.partition("\n## dump\n")
+    part, _, _ = part.partition("\n## phases\n")
+    named = re.search(r"of `(examples/\w+\.toml)`, n = (\d+):", part)
+    assert named
+    lines = asked("dump", named[1], "--cycles", named[2]).splitlines()
+    cells = [row.split(" | ")[0] for row in part.splitlines() if row.startswith("|")]
+    shown = [it for cell in cells for it in re.findall(r"`(.+?)( \.\.)?`( \.\.)?", cell)]
+    assert len(shown) == 18
+    for text, *abridged in shown:
+        is_begun = any(abridged) or " " not in text
+        assert text in lines or is_begun and any(it.startswith(f"{text} ") for it in lines), text
+
+
 def test_places_have_each_spelling_and_the_counts() -> None:
     ran = subprocess.run(
         [sys.executable, "-m", "dev.pages.places", "--lines", "gth", "ee"],
