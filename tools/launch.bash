@@ -43,7 +43,7 @@ tools_python() {
     local python found=''
     for python in python3 /usr/bin/python3; do
         "$python" -c 'import importlib.util, sys
-sys.exit(4 if sys.version_info < (3, 11) else 0 if all(map(importlib.util.find_spec, ("elftools", "jsonschema", "networkx"))) else 3)' 2>/dev/null
+sys.exit(4 if sys.version_info < (3, 11) else 0 if all(map(importlib.util.find_spec, ("elftools", "jsonschema"))) else 3)' 2>/dev/null
         case $? in
         0)
             found=$python

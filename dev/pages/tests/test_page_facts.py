@@ -255,6 +255,16 @@ def test_each_tool_has_a_row() -> None:
     assert shown == tools | {"install.sh"}
 
 
+def test_one_more_thread_in_c_has_the_keys_of_its_table() -> None:
+    """Those of PROGRAMMING; the entry is that of region 3."""
+    table = re.findall(
+        r"^ +((?:mode|entry|confined) = \S+)$", document("PROGRAMMING.md").read_text(), re.M
+    )[-3:]
+    assert [it.split()[0] for it in table] == ["mode", "entry", "confined"]
+    page = document("C.md").read_text()
+    assert all(f"`{it}`" in page for it in table)
+
+
 def test_each_option_of_the_script_has_a_row() -> None:
     """What ./flexpret --help shows, but for the arguments of its commands."""
     text = (TOP / "flexpret").read_text().split("END_OF_HELP")[1]

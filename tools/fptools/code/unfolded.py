@@ -1,8 +1,8 @@
 """The words that a thread may issue from its entry on, with each call that leads to a wait put in
-place.
+place, and each one of straight code that reads the time.
 
-A place is a word together with the calls by which it is reached. Calls of functions without a
-wait are passed over: they come back to the next word. Trap handlers are left out."""
+A place is a word together with the calls by which it is reached. Other calls are passed over: they
+come back to the next word. Trap handlers are left out."""
 
 from collections import defaultdict
 from dataclasses import dataclass, field
@@ -12,6 +12,7 @@ from typing import NamedTuple
 from fptools.files.elf import Function, Program
 from fptools.code.returns import wrong_return
 from fptools.code.digraph import Dominators, Graph, search
+from fptools.code.kept import reads_time
 from fptools.code.section import Exit, Section, walk
 from fptools.limits import LARGE
 from fptools.code.thread import Code, reach
@@ -21,6 +22,9 @@ from fptools.isa.words import FUNCT3_WAITS, OPCODE_TIMING, RETURN, Flow, Word
 FUNCT3_DELAY, FUNCT3_WAIT = FUNCT3_WAITS
 MOST_CALLS = 16
 MOST_PLACES = 20_000
+MOST_STRAIGHT = (
+    256  # words of a function without a wait, with those that it calls, to be put in place
+)
 
 
 class NotUnfolded(Exception):
@@ -57,7 +61,7 @@ class Step:
 
     @property
     def passes_over(self) -> bool:
-        """Whether it is a call of a function that has no wait."""
+        """Whether it is a call of a function that isn't put in place."""
         return self.word.flow is Flow.CALL and self.target is None
 
 
@@ -82,8 +86,10 @@ class Unfolded:
     code: Code
     program: Program
     entry: int
+    is_deep: bool = False  # whether each call of straight code is put in place
     steps: dict[Place, Step] = field(default_factory=dict)
-    _leads: dict[int, bool] = field(default_factory=dict)
+    _reached: dict[int, list[Word]] = field(default_factory=dict)
+    _straight: dict[int, bool] = field(default_factory=dict)
     _checked: set[int] = field(default_factory=set)
 
     def __post_init__(self) -> None:
@@ -98,7 +104,7 @@ class Unfolded:
 
     @property
     def passed_over(self) -> set[int]:
-        """The functions without a wait that are called."""
+        """The functions that are called and aren't put in place."""
         found = (it.word.target for it in self.steps.values() if it.passes_over)
         return {it for it in found if it is not None}
 
@@ -119,7 +125,7 @@ class Unfolded:
         if flow is Flow.CALL and word.target is not None:
             if not word.comes_back:
                 raise NotUnfolded(place.pc, "a call that doesn't keep its return address in x1")
-            if not self._leads_to_wait(word.target):
+            if not self._is_put_in_place(place, word.target):
                 return Step(word, onward)
             return Step(word, None, self._called(place, word.target))
         target = None if word.target is None else Place(sites, word.target)
@@ -141,12 +147,38 @@ class Unfolded:
             raise NotUnfolded(place.pc, "recursion on the path to a wait")
         return Place((*place.sites, place.pc), target)
 
-    def _leads_to_wait(self, target: int) -> bool:
-        """Whether a called function, or one that it calls, has a WU or a DU."""
-        if target not in self._leads:
-            words = reach(self.code, [target]).words.values()
-            self._leads[target] = any(it.flow is Flow.WAIT for it in words)
-        return self._leads[target]
+    def _is_put_in_place(self, place: Place, target: int) -> bool:
+        """Whether a call is followed: if it leads to a wait; or if it is of straight code that reads
+        the time, or that `is_deep` asks for."""
+        words = self._words_from(target)
+        if any(it.flow is Flow.WAIT for it in words):
+            return True
+        is_short = len(words) <= MOST_STRAIGHT and len(place.sites) < MOST_CALLS
+        return (
+            is_short and (self.is_deep or any(map(reads_time, words))) and self._is_straight(target)
+        )
+
+    def _words_from(self, target: int) -> list[Word]:
+        """The words of a called function and of those that it calls."""
+        if target not in self._reached:
+            self._reached[target] = [*reach(self.code, [target]).words.values()]
+        return self._reached[target]
+
+    def _is_straight(self, target: int) -> bool:
+        """Whether a function has no loop and goes back to its call on each path, and so do those that
+        it calls."""
+        if target not in self._straight:
+            self._straight[target] = False  # also while it is looked at, for one that calls itself
+            try:
+                part = self.part_of(target)
+                self._look_at_returns(target)
+            except NotUnfolded:
+                return False
+            has_loop = any(len(it) > 1 for it in part.graph.parts())
+            has_loop |= any(one == other for one, other in part.graph.edges)
+            callees = [self._is_straight(it) for it in sorted(part.callees)]
+            self._straight[target] = all(callees) and not has_loop and part.ends
+        return self._straight[target]
 
     def _look_at_returns(self, start: int) -> None:
         """Each `ret` of a function with a wait goes back to its call."""

@@ -131,8 +131,8 @@ class _Tests:
 
     def _side(self, test: Word, register: int) -> Side | None:
         here = self.values.before[test.pc][register]
-        if here.origin is None:
-            return Side(here, 0)  # the same number at each test
+        if here.origin is None or here.origin[0] & ~3 not in self.loop.body:
+            return Side(here, 0)  # the same at each test, as no round passes its origin again
         sums = self._sums_of(register)
         if sums is None:
             return None

@@ -71,10 +71,27 @@ def why_unbounded(
         return _again(program, flow, used)
     path = lines_text(program, [edge.start for edge in missing])
     if not flow.claims():
-        helps = "write FP_LOOP(name, n) before it, and FP_ROUND(name) in it"
-        return f"no FP_ROUND is in the loop in {where}: {helps}"
+        return f"no FP_ROUND is in the loop in {where}: {_helps(flow)}"
     names = " or ".join(f"FP_ROUND({it.name})" for it in used)
-    return f"no {names} is on the way {path}: each round has to pass one"
+    inner = min(flow.entered() & set(used), default=None)
+    helps = "each round has to pass one" if inner is None else _mark_around(inner)
+    return f"no {names} is on the way {path}: {helps}"
+
+
+def _helps(flow: LoopFlow) -> str:
+    """The marks to write for a loop that has none. Where it passes the FP_LOOP of a claim, it is the
+    loop around that of the claim, or a part that the compiler made of both."""
+    inner = min(flow.entered(), default=None)
+    if inner is None:
+        return "write FP_LOOP(name, n) before it, and FP_ROUND(name) in it"
+    return _mark_around(inner)
+
+
+def _mark_around(inner: Claim) -> str:
+    """The marks of the loop around that of a claim. gcc may make one loop of both at -O3, where it
+    unrolls the inner one."""
+    marks = "with FP_LOOP(name, n) before it and FP_ROUND(name) in it"
+    return f"mark the loop around FP_LOOP({inner.name}) too, {marks}, or compile by -O2"
 
 
 def _again(program: Program, flow: LoopFlow, used: Collection[Claim]) -> str:
@@ -91,10 +108,8 @@ def _again(program: Program, flow: LoopFlow, used: Collection[Claim]) -> str:
             map(str, sorted(used))
         )
     where = lines_text(program, _ends(edges))
-    return (
-        f"a round may pass FP_LOOP({again[0].name}) again, at {where}: "
-        "write FP_LOOP before the loop, and in each loop a FP_ROUND of its own"
-    )
+    text = f"a round may pass FP_LOOP({again[0].name}) again, at {where}: write FP_LOOP before the loop"
+    return f"{text}; where it is, {_mark_around(again[0])}"
 
 
 def _ends(edges: Sequence[Edge]) -> list[int]:

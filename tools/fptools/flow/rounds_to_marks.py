@@ -195,10 +195,17 @@ def _edits(source: Source, comment: re.Match[str]) -> Iterator[Edit]:
         yield Edit(loop.end, loop.end, " }", closes)
 
 
+def comments_of(text: str) -> list[re.Match[str]]:
+    """The comments `@rounds N` of a source, without what is in a string."""
+    strings = [it.span() for it in HIDDEN.finditer(text) if it[0][0] in "\"'"]
+    found = COMMENT.finditer(text)
+    return [it for it in found if not any(a < it.end() <= b for a, b in strings)]
+
+
 def with_marks(text: str) -> str:
     """The source with marks in place of comments. Raises NoLoop."""
     source = Source(text)
-    edits = [it for comment in COMMENT.finditer(text) for it in _edits(source, comment)]
+    edits = [it for comment in comments_of(text) for it in _edits(source, comment)]
     made, at = "", 0
     for edit in sorted(edits, key=lambda it: (it.at, it.rank)):
         made += text[at : edit.at] + edit.text

@@ -2,12 +2,12 @@
 wait before it."""
 from __future__ import annotations
 
-from dataclasses import dataclass, field
+from dataclasses import dataclass
 from enum import IntEnum
 
 from fptools.budget.judge import Unknown
 from fptools.period.moment_values import Absolute, Behind, Moment, Unclear
-from fptools.period.moments import Moments
+from fptools.period.shown import Shown
 from fptools.period.bounds import PathBounds
 from fptools.isa.turns import Turns
 from fptools.code.unfolded import Place, is_wait
@@ -37,14 +37,11 @@ class FirstWaits:
     """Judges the waits that are before a loop's first."""
 
     bounds: PathBounds
-    moments: Moments
+    moments: Shown
     turns: Turns
-    _behind: dict[Place, dict[Place, Moment]] = field(default_factory=dict)
 
     def moments_behind(self, begin: Place) -> dict[Place, Moment]:
-        if begin not in self._behind:
-            self._behind[begin] = self.moments.behind(begin)
-        return self._behind[begin]
+        return self.moments.behind(begin)
 
     def judged(self, waits: frozenset[Place]) -> Judgement:
         """Whether each wait of a loop is in time when it is reached from outside of the loop."""

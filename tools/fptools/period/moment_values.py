@@ -93,6 +93,7 @@ class Carry:
 
 Known = Union[Linear, High, Carry]
 MOMENT = "the moment of the wait before"
+ADD_IT = "`next += P` on a local uint64_t, compiled from -Og on, shows it"
 
 
 def low_of(value: High) -> Linear:
@@ -173,7 +174,7 @@ def moment_of(high: Known, low: Known) -> Moment:
     if sum_of(low) is not None:
         return Unclear("the low word of the moment is a number, and the high word isn't known")
     if not isinstance(low.origin, LowOf) or not low.offset.is_number:
-        return Unclear("the low word of the moment isn't the one before plus a number")
+        return Unclear(f"the low word of the moment isn't the one before plus a number: {ADD_IT}")
     if first is not None:
         return Unclear("the high word of the moment is a number: it works for 4.29 seconds", True)
     if not isinstance(high, High) or high.base != low.origin.base:

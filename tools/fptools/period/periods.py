@@ -20,6 +20,7 @@ from fptools.period.first_waits import FirstWaits, Timely
 from fptools.code.kept import Called
 from fptools.period.moment_values import Absolute, Behind, Moment, Unclear
 from fptools.period.moments import Moments
+from fptools.period.shown import Shown
 from fptools.budget.names import Names
 from fptools.period.wait_paths import Paths
 from fptools.period.bounds import LOST, MISSING, REGISTER, TRAPS, PathBounds
@@ -169,9 +170,12 @@ class Periods:
     def _first(self) -> FirstWaits:
         names, thread = self.names, self.budget.thread
         called = Called(names.image, names.program, self._path_bounds.rounds)
-        moments = Moments(self.unfolded, self.judge.setup, thread, names.image, called)
+
+        def moments_of(unfolded: Unfolded) -> Moments:
+            return Moments(unfolded, self.judge.setup, thread, names.image, called)
+
         assert self._turns is not None
-        return FirstWaits(self._path_bounds, moments, self._turns)
+        return FirstWaits(self._path_bounds, Shown(self.unfolded, moments_of), self._turns)
 
     @cached_property
     def _path_bounds(self) -> PathBounds:

@@ -73,3 +73,16 @@ def test_an_installed_tool_names_what_pip_installs(bare: Path, name: str) -> Non
     ran = called(bare, "-c", call, PYTHONPATH=str(TOOLS))
     assert ran.returncode == 2 and ran.stderr.startswith(f"{name}: {bare} (Python")
     assert "here: pip install pyelftools jsonschema;" in ran.stderr
+
+
+def test_the_script_takes_the_first_python_with_the_packages_that_tools_use(
+    bare: Path, tmp_path: Path
+) -> None:
+    """It needs those of each tool, and no others."""
+    folder = next((bare.parent.parent / "lib").iterdir()) / "site-packages"
+    words = f'. "{TOOLS}/launch.bash"; tools_python'
+    path = f"{bare.parent}:{os.environ['PATH']}"
+    for name in ("elftools", "jsonschema"):
+        assert called("bash", "-c", words, PATH=path).stdout == f"{DEBIAN}\n"
+        (folder / name).mkdir()
+    assert called("bash", "-c", words, PATH=path).stdout == "python3\n"

@@ -69,6 +69,14 @@ BEQ, BNE, BLT, BLTU = 0, 1, 4, 6
             (BNE, 1, 0),
             None,
         ),  # a step that may be left out
+        (
+            [addi(3, 1, 0)],
+            [addi(2, 3, 32), addi(1, 1, 4)],
+            (BNE, 1, 2),
+            8,
+        ),  # each round sets its end
+        ([], [addi(2, 1, 32), addi(1, 1, 4)], (BNE, 1, 2), None),  # an end that moves with it
+        ([addi(3, 1, 0)], [addi(2, 3, 32), addi(3, 3, 4), addi(1, 1, 4)], (BNE, 1, 2), None),
         ([addi(2, 0, 8)], [addi(1, 1, -1)], (BNE, 1, 0), None),  # nothing sets the counter
         ([addi(1, 0, 8)], [addi(1, 1, -1)], (BEQ, 1, 0), 1),  # it goes on at its limit alone
     ],

@@ -102,6 +102,40 @@ def test_the_outer_loop_of_an_insertion_sort(tmp_path: Path, level: str) -> None
     assert outer.by_code is not None and outer.by_code.is_exact and outer.bound in (14, 15)
 
 
+MEDIAN = """uint32_t window[9];
+void main0(void)
+{
+    u32 s[9];
+    for (int i = 0; i < 9; i++) s[i] = window[i];
+    AROUND
+    for (int i = 1; i < 9; i++) {
+        IN_IT
+        u32 v = s[i], j = i;
+        FP_LOOP(sink, 8);
+        while (j > 0 && s[j - 1] > v) { FP_ROUND(sink); s[j] = s[j - 1]; j--; }
+        s[j] = v;
+    }
+    FP_PORT = s[4];
+}
+"""
+
+
+@pytest.mark.parametrize("level", ["-Og", "-O1", "-O2", "-Os", "-O3"])
+def test_an_insertion_sort_of_a_copy(tmp_path: Path, level: str) -> None:
+    """gcc -O3 unrolls the outer loop and makes others of both; gcc -O1 makes a round of it without its test, of j = 0.
+    The message names what helps then."""
+    plain = MEDIAN.replace("AROUND", "").replace("IN_IT", "")
+    marked = MEDIAN.replace("AROUND", "FP_LOOP(i, 8);").replace("IN_IT", "FP_ROUND(i);")
+    found = stated(built(tmp_path / "plain", [HEAD + plain], [level]))["main0"]
+    why = [it.doubt for it in found if it.bound is None]
+    assert bool(why) == (level in ("-O1", "-O3"))
+    cure = "mark the loop around FP_LOOP(sink) too, with FP_LOOP(name, n) before it and FP_ROUND(name) in it, or compile by -O2"
+    assert all(cure in it for it in why), why
+    for text, by in ((marked, level), (plain, "-O2")):
+        found = stated(built(tmp_path / by, [HEAD + text], [by]))["main0"]
+        assert found and all(it.bound is not None and it.bound <= 9 for it in found), by
+
+
 @pytest.mark.parametrize(
     ("left", "right", "test", "bound"),
     [

@@ -62,6 +62,14 @@ def test_a_source_without_comments_stays() -> None:
     assert with_marks(text) == text
 
 
+@pytest.mark.parametrize("quote", ['"', "'"])
+def test_a_comment_in_a_string_is_none(quote: str) -> None:
+    text = f"for (i = 0; i < n; i++) {{ msg = {quote}/* @rounds 4 */{quote}; f(); }}\n"
+    assert with_marks(text) == text
+    marked = "FP_LOOP(i, 3);\n" + text.replace("{ ", "{ FP_ROUND(i); ")
+    assert with_marks(text.replace("\n", " /* @rounds 3 */\n")) == marked
+
+
 def test_a_comment_of_no_loop() -> None:
     with pytest.raises(NoLoop) as why:
         with_marks("int a;\nf(); /* @rounds 4 */\n")

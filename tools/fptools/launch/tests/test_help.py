@@ -49,6 +49,19 @@ SCRIPTS_OPTIONS = ("-o", "--listing", "--map", "--elf", "--quiet")
 """The options behind a command that the script takes, or a tool."""
 
 
+def test_the_texts_say_which_options_may_follow_the_command() -> None:
+    """`test_quiet_turns_lines_off` calls the scripts so."""
+    page = " ".join((TOP / "docs/COMMANDS.md").read_text().split())
+    assert "the command; only `--quiet` and `--help` may also follow it." in page
+    for name in ("flexpret", "flexpret-view"):
+        text = subprocess.run(
+            [TOP / name, "--help"], capture_output=True, text=True, check=True
+        ).stdout
+        assert re.search(r"^  --quiet .*; it may also follow ", text, re.M)
+        page = (TOP / f"tools/{name}.1").read_text().replace("\\-", "-")
+        assert "command, --quiet and --help also after it:" in page
+
+
 @pytest.mark.parametrize(
     "option", ["--quiet", "--model", "--unproved", "--use", "--version", "--help"]
 )
