@@ -123,6 +123,7 @@ class States:
         self._runs, self._history = runs, history
         self._kept: OrderedDict[int, State] = OrderedDict()  # by the number of a window
         self._last: tuple[int, State] | None = None
+        self._far = -CARRIED - 1  # the window of the last cycle whose own state was asked for
 
     def at(self, cycle: int) -> State:
         """The state before the issue of a cycle. It isn't to be changed."""
@@ -130,11 +131,12 @@ class States:
         start, state = self._last or (0, None)
         if state is None or not max(number - CARRIED, 0) * WINDOW <= start <= cycle:
             start, state = number * WINDOW, None
-            if any(number - CARRIED <= it <= number for it in self._kept):
+            is_near = any(number - CARRIED <= it <= number for it in self._kept)
+            if is_near or abs(number - self._far) <= CARRIED:
                 state = self.of_window(number).copy()
         self._last = None  # it is broken while it is carried
         if state is None:
-            state = self._asked(cycle)
+            state, self._far = self._asked(cycle), number
         else:
             for window in self._history.onwards(start, cycle):
                 state.carry(window, max(start, window.first), min(cycle, window.end))
