@@ -6,7 +6,7 @@ from __future__ import annotations
 from dataclasses import dataclass
 from typing import Iterable, Mapping
 
-from fptools.files.dump import THREADS, Dump
+from fptools.files.dump import THREADS
 from fptools.gdb.history import WINDOW, History, event_in
 from fptools.gdb.registers import CYCLE, MHARTID, PC, REGISTERS, TIME, Register
 from fptools.gdb.runs import RETIRES, Runs, Waiter
@@ -60,7 +60,6 @@ class Machine:
         self.states = States(self.runs, self.history)
         self.now = 0
         self.goal: int | None = None  # where it is put when it is next to go on
-        self._dump: Dump | None = None
         self._slept: dict[tuple[int, int], int] = {}  # moments, by thread and cycle of a WU
         self._spun: dict[
             tuple[int, int], int | None
@@ -90,12 +89,6 @@ class Machine:
         self.states.at(cycle)
         for each in range(THREADS):
             self.wakes(each)
-
-    def dump(self, cycles: int) -> Dump:
-        """A dump; the last one is kept."""
-        if self._dump is None or self._dump.cycles != cycles:
-            self._dump = self.runs.dump(cycles)
-        return self._dump
 
     def next_event(self, thread: int) -> Event | None:
         """The thread's next issue, if it comes soon."""
@@ -127,7 +120,7 @@ class Machine:
         """The address of a thread's first issue after that of a cycle, if it comes soon. A DU that
         spins has no event, but a dump shows it in its stages."""
         if (thread, cycle) not in self._spun:
-            dumps = (self.dump(cycle + TURNS_OF_DUMP * (it + 1) + 2) for it in range(DUMPS))
+            dumps = (self.runs.dump(cycle + TURNS_OF_DUMP * (it + 1) + 2) for it in range(DUMPS))
             turns = (turn for dump in dumps for turn in reversed(list(dump.stages.values())))
             self._spun[thread, cycle] = next(
                 (it.pc for it in turns if it.thread == thread and it.bits), None
@@ -190,7 +183,7 @@ class Machine:
         if key not in self._slept:
             self._slept = {
                 (other, event.cycle): it.sleep
-                for other, it in enumerate(self.dump(self.now + SHOWN_LATER).threads)
+                for other, it in enumerate(self.runs.dump(self.now + SHOWN_LATER).threads)
                 if (event := self.last_event(other)) is not None
             }
         return self._slept[key] if self._slept[key] > self.time else None

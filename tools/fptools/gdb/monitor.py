@@ -78,7 +78,7 @@ class Monitor:
 
     def _time(self, words: Sequence[str], thread: int) -> Iterator[str]:
         yield f"{self._head()}; the run ends at cycle {self.machine.end}"
-        dump = self.machine.dump(self.machine.now + SHOWN_LATER)
+        dump = self.machine.runs.dump(self.machine.now + SHOWN_LATER)
         for number in range(THREADS):
             armed = dump.threads[number].armed
             text = "" if armed is None else f", deadline armed for {self._moment(armed)}"
@@ -90,7 +90,7 @@ class Monitor:
     def _pipeline(self, words: Sequence[str], thread: int) -> Iterator[str]:
         """The stages F to W. In F is the thread that was picked, with its issue if it has one."""
         yield self._head()
-        dump = self.machine.dump(self.machine.now + 1)
+        dump = self.machine.runs.dump(self.machine.now + 1)
         ahead = None if dump.fetching is None else self.machine.next_event(dump.fetching)
         is_now = ahead is not None and ahead.cycle == self.machine.now
         fetch = (

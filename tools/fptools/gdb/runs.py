@@ -20,7 +20,7 @@ FIRST_CYCLES, LONGER = (
 )  # the cycles of a thread's first call, and how much longer the next is
 RETIRES = 4  # an issue of cycle c is in the trace of c + 5 cycles
 READ_BYTES = 1 << 16
-LINE_BYTES = 64  # a line of a trace is shorter
+KEPT = 16  # dumps
 BUILT = Path("crates/flexpret_cli/out/flexpret_cli")
 
 
@@ -80,6 +80,7 @@ class Runs:
     def __init__(self, flexpret: Flexpret, setup: Path, most: int, waiter: Waiter) -> None:
         self.flexpret, self.setup, self.most, self.waiter = flexpret, setup, most, waiter
         self._files: dict[Path, tuple[int, int, int]] = {}
+        self._dumps: dict[int, Dump] = {}  # by their cycles
 
     def start(self, *files: Path) -> None:
         """Has the program built, if it must be. A refusal is a `RunFailed` with its words.
@@ -97,6 +98,14 @@ class Runs:
         return self._call("run", "--thread", str(thread), "--cycles", str(cycles))
 
     def dump(self, cycles: int) -> Dump:
+        """A dump; the last ones are kept."""
+        if cycles not in self._dumps:
+            self._dumps[cycles] = self._dumped(cycles)
+            while len(self._dumps) > KEPT:
+                del self._dumps[next(iter(self._dumps))]
+        return self._dumps[cycles]
+
+    def _dumped(self, cycles: int) -> Dump:
         call = self._call("dump", "--cycles", str(cycles))
         try:
             return read_dump(call.whole().decode("ascii"))
@@ -146,66 +155,63 @@ def last_line(text: bytes) -> bytes:
 
 
 class Stream:
-    """The trace of a thread, from one of its bytes on."""
+    """The trace of a thread."""
 
-    def __init__(
-        self, runs: Runs, thread: int, offset: int = 0, cycles: int = FIRST_CYCLES
-    ) -> None:
+    def __init__(self, runs: Runs, thread: int, cycles: int = FIRST_CYCLES) -> None:
         self._runs, self._thread = runs, thread
-        self.offset = offset  # how many bytes of the trace were passed or taken
-        self.before = b""  # the last line of them
+        self.before = b""  # the last line that was taken
         self.aim = 0  # a cycle up to which it will be filled
         self._cycles = min(cycles, runs.most)
+        self._taken = 0  # bytes
         self._rest = b""
         self._call: Call | None = None
+        self._known = 0  # how many of the call's next bytes were read from an earlier one
         self._is_ended = False
 
     def fill(self, cycle: int) -> None:
         """Reads on until all lines before a cycle are here. It may be broken off and repeated."""
-        while not self._has(cycle):
-            self._read_on()
+        while not self.has(cycle):
+            self.read_on()
+
+    def has(self, cycle: int) -> bool:
+        """Whether all lines before a cycle were read."""
+        is_complete = self._is_ended and cycle <= self._cycles - RETIRES
+        return is_complete or last_cycle(self._rest) >= cycle
+
+    def drop(self, cycle: int) -> bytes:
+        """The lines before a cycle that were read but not taken, or all but the last one of them."""
+        return self.take(cycle if self.has(cycle) else last_cycle(self._rest))
 
     def take(self, cycle: int) -> bytes:
         """The lines before a cycle, up to which the stream is filled, that weren't taken yet."""
         taken = self._rest[: offset_of(self._rest, cycle, self._rest.rfind(b"\n") + 1)]
         self._rest = self._rest[len(taken) :]
-        self.offset += len(taken)
+        self._taken += len(taken)
         self.before = last_line(taken) or self.before
         return taken
+
+    def read_on(self) -> None:
+        """Reads some more bytes, from a longer call where one has ended."""
+        if self._call is None or self._is_ended:
+            self._begin(self._cycles * LONGER if self._is_ended else self._cycles)
+        assert self._call
+        data = self._call.read()
+        if self._known and not data:
+            raise RunFailed(f"the run of T{self._thread} is shorter than before")
+        known = data[: self._known]
+        self._known -= len(known)
+        self._is_ended = not data
+        self._rest += data[len(known) :]
 
     def close(self) -> None:
         if self._call is not None:
             self._call.close()
         self._call = None
 
-    def _has(self, cycle: int) -> bool:
-        """Whether all lines up to a cycle were read."""
-        is_complete = self._is_ended and cycle <= self._cycles - RETIRES
-        return is_complete or last_cycle(self._rest) >= cycle
-
-    def _read_on(self) -> None:
-        if self._is_ended:
-            self.close()
-            self._cycles *= LONGER
-        if self._call is None:
-            is_first = not self._rest
-            self._cycles = min(max(self._cycles, 2 * self.aim), self._runs.most)
-            self._call = self._runs.trace(self._thread, self._cycles)
-            passed = self._pass(self._call, self.offset + len(self._rest))
-            self.before = self.before or (last_line(passed) if is_first else b"")
-        data = self._call.read()
-        self._is_ended = not data
-        self._rest += data
-
-    def _pass(self, call: Call, size: int) -> bytes:
-        """Passes over the bytes of a call that were read from an earlier one. Returns their end."""
-        tail = b""
-        while size:
-            data = call.read()
-            if not data:
-                raise RunFailed(f"the run of T{self._thread} is shorter than before")
-            passed = data[:size]
-            tail = (tail + passed)[-2 * LINE_BYTES :]
-            self._rest += data[size:]
-            size -= len(passed)
-        return tail
+    def _begin(self, cycles: int) -> None:
+        """Begins a call of so many cycles, or more if it will be needed for more."""
+        self.close()
+        most = min(max(cycles, 2 * self.aim), self._runs.most)
+        self._call = self._runs.trace(self._thread, most)
+        self._cycles, self._is_ended = most, False
+        self._known = self._taken + len(self._rest)

@@ -123,24 +123,32 @@ class States:
         self._runs, self._history = runs, history
         self._kept: OrderedDict[int, State] = OrderedDict()  # by the number of a window
         self._last: tuple[int, State] | None = None
+        self._far = -CARRIED - 1  # the window of the last cycle whose own state was asked for
 
     def at(self, cycle: int) -> State:
         """The state before the issue of a cycle. It isn't to be changed."""
-        window = self._history.at(cycle)
+        number = cycle // WINDOW
         start, state = self._last or (0, None)
-        if state is None or not window.first <= start <= cycle:
-            start, state = window.first, self.of_window(cycle // WINDOW).copy()
+        if state is None or not max(number - CARRIED, 0) * WINDOW <= start <= cycle:
+            start, state = number * WINDOW, None
+            is_near = any(number - CARRIED <= it <= number for it in self._kept)
+            if is_near or abs(number - self._far) <= CARRIED:
+                state = self.of_window(number).copy()
         self._last = None  # it is broken while it is carried
-        state.carry(window, start, cycle)
+        if state is None:
+            state, self._far = self._asked(cycle), number
+        else:
+            for window in self._history.onwards(start, cycle):
+                state.carry(window, max(start, window.first), min(cycle, window.end))
         self._last = cycle, state
         return state
 
     def of_window(self, number: int) -> State:
         """The state before a window. It isn't to be changed."""
         near = [it for it in self._kept if number - CARRIED <= it <= number]
-        start = max(near) if near else max(number - STEP_BACK, 0)
+        start = max(near) if near else self._start(number)
         if start not in self._kept:
-            self._keep(start, self._asked(start))
+            self._keep(start, self._asked(start * WINDOW))
         for earlier in range(start, number):
             if earlier + 1 not in self._kept:
                 state = self._kept[earlier].copy()
@@ -149,22 +157,31 @@ class States:
                 self._keep(earlier + 1, state)
         return self._kept[number]
 
+    def _start(self, number: int) -> int:
+        """The window before a window whose state is asked for. No window is read for it that isn't
+        needed: the one before it is kept, if there are some."""
+        kept = self._history.kept_before(number, STEP_BACK + 1)
+        is_far = kept >= min(number, STEP_BACK + 1)
+        return max(number - STEP_BACK, 0) if is_far else number - max(kept - 1, 0)
+
     def _keep(self, number: int, state: State) -> None:
         self._kept[number] = state
         while len(self._kept) > KEPT:
             self._kept.popitem(last=False)
 
-    def _asked(self, number: int) -> State:
-        """The state before a window: a dump, and the last effects that it shows only of CSRs."""
-        cycle = number * WINDOW
+    def _asked(self, cycle: int) -> State:
+        """The state before a cycle: a dump, and the last effects that it shows only of CSRs."""
         state = _of_dump(self._runs.dump(cycle + SHOWN_LATER))
-        if number == 0:
-            return state
-        window = self._history.window(number - 1)
-        starts = (cycle + SHOWN_LATER - REGISTERS_LATER, cycle + SHOWN_LATER - DATA_LATER)
-        threads = range(THREADS)
-        unwritten, unstored = ([window.lines(it, at, cycle) for it in threads] for at in starts)
+        unwritten, unstored = (
+            self._lines(max(cycle + SHOWN_LATER - later, 0), cycle)
+            for later in (REGISTERS_LATER, DATA_LATER)
+        )
         for thread, lines in enumerate(unwritten):
             state.write_registers(thread, lines)
         state.store(unstored)
         return state
+
+    def _lines(self, start: int, end: int) -> list[bytes]:
+        """The lines of each thread from a cycle on and before another."""
+        windows = list(self._history.onwards(start, end))
+        return [b"".join(it.lines(at, start, end) for it in windows) for at in range(THREADS)]

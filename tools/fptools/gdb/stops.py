@@ -18,6 +18,7 @@ from fptools.gdb.state import STORE
 from fptools.files.trace_blocks import BITS, CYCLE, EFFECT
 from fptools.isa.words import OPCODE_LOAD, Word
 
+MOST_WATCHED = 64  # bytes of a watchpoint that is looked for by its text
 COLUMN = 10  # of the pc, with the space before it
 LOADED = (b"x", b"-")  # how the effect of a load begins that isn't refused
 WRITTEN, VALUE = slice(30, 32), slice(33, 41)  # of an effect `x05=0000002a` in its line
@@ -109,7 +110,12 @@ class Stops:
 
     def _first(self, is_forwards: bool, step: int | None) -> Stop | None:
         history, now, end = self.machine.history, self.machine.now, self.machine.end
-        for window in history.onwards(now, end) if is_forwards else history.backwards(now):
+        windows = (
+            history.onwards(now, end)
+            if is_forwards
+            else history.backwards(now, self._keys() if step is None else None)
+        )
+        for window in windows:
             start = max(now, window.first) if is_forwards else window.first
             last = min(end, window.end) if is_forwards else min(now, window.end)
             found = list(self._in(Span(window, start, last, is_forwards), step))
@@ -120,6 +126,17 @@ class Stops:
             # Where the search is broken off, the machine is here.
             self.machine.now = last if is_forwards else start
         return None
+
+    def _keys(self) -> list[bytes] | None:
+        """Texts of which each line with a stop has one; None where there are no such texts, or many."""
+        keys = [_key(pc) for pc, _ in self.breakpoints]
+        for watch in self.watches:
+            if watch.access is not Access.WRITE or watch.size > MOST_WATCHED:
+                return None
+            # A store is in one word, and all but the last digit of its address are in the text.
+            lines = range(watch.address >> 4, (watch.address + watch.size - 1 >> 4) + 1)
+            keys += [b"[%07x" % line for line in lines]
+        return keys
 
     def _in(self, span: Span, step: int | None) -> Iterator[Stop]:
         """The nearest stops of each kind in a span, or some more."""
@@ -179,9 +196,14 @@ def _nearest(lines: bytes, is_forwards: bool) -> bytes:
     return line_at(lines, 0) if is_forwards else last_line(lines)
 
 
+def _key(pc: int) -> bytes:
+    """What the line of an issue at an address has. It may also be the word there."""
+    return b" %08x " % pc
+
+
 def _issue_at(lines: bytes, pc: int, is_forwards: bool) -> int:
     """Where the first or last line of an issue at an address begins; -1 where there is none."""
-    key = b" %08x " % pc  # it may also be the word
+    key = _key(pc)
     at = lines.find(key) if is_forwards else lines.rfind(key)
     while at >= 0:
         start = at - COLUMN

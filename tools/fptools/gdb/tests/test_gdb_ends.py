@@ -247,6 +247,29 @@ def test_windows_are_those_of_the_trace(flexpret: str, monkeypatch: pytest.Monke
     history.close()
 
 
+@pytest.mark.parametrize("key", [b" 000000b4 ", b"[2000002", b" 00000000 "])
+def test_a_search_backwards_finds_all_windows_with_a_key(
+    flexpret: str, monkeypatch: pytest.MonkeyPatch, key: bytes
+) -> None:
+    """Where windows were dropped, and again forwards over them."""
+    monkeypatch.setattr("fptools.gdb.history.MOST_BYTES", 1 << 20)
+    monkeypatch.chdir(TOP)
+    runs = Runs(Flexpret(flexpret), Path(PID), 64 * WINDOW + 4, Patient())
+    history = History(runs, range(8))
+    history.window(60)
+    found = {
+        it.number: it.texts
+        for it in history.backwards(60 * WINDOW, [key])
+        if any(key in text for text in it.texts)
+    }
+    forwards = {it.number: it.texts for it in history.onwards(0, 60 * WINDOW)}
+    assert list(found) == sorted(found, reverse=True)
+    assert found == {
+        number: texts for number, texts in forwards.items() if any(key in text for text in texts)
+    }
+    history.close()
+
+
 def test_states_are_carried_and_asked_for(flexpret: str, monkeypatch: pytest.MonkeyPatch) -> None:
     monkeypatch.chdir(TOP)
     runs = Runs(Flexpret(flexpret), Path(PID), 90 * WINDOW + 4, Patient())
