@@ -34,3 +34,8 @@ IsFaultOf defined refused.NoMemory = Unit {0}
 abbrev pub IsLineStopOf : {A : Type 0} → Result A AsmNo → LineStop → Type 0
 IsLineStopOf defined (stop.Fault code) = defined ≡ Err code
 IsLineStopOf defined stop.NoMemory = Unit {0}
+
+-- the refusal by what stops the code in a line, with the line's number
+abbrev pub refused_in : ℕ → LineStop → AsmRefused
+refused_in line (stop.Fault code) = refused.Fault line code
+refused_in line stop.NoMemory = refused.NoMemory

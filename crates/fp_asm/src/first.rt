@@ -97,15 +97,8 @@ impl<'a> First<'a> {
             (first_pass_of 1 (abstract_first self.old) (map (λ l. l.now) lines.now))) }
     {
         for (i, line) in lines.iter().enumerate() {
-            match self.line(alloc, *line) {
-                Ok(()) => {}
-                Err(LineStop::NoMemory) => return Err(AsmRefused::NoMemory),
-                Err(LineStop::Fault { code }) => {
-                    return Err(AsmRefused::Fault {
-                        line: i as u32 + 1,
-                        code,
-                    });
-                }
+            if let Err(stop) = self.line(alloc, *line) {
+                return Err(stop.refused_in(i as u32 + 1));
             }
         }
         Ok(())

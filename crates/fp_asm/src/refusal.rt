@@ -1,6 +1,7 @@
 //! The reason why a source was refused.
 
 ghost use Rattle.std.specs.Prelude.{◌≡◌};
+ghost use Rattle.fp_asm.specs.Faults.{refused_in as refused_in_line};
 
 use std::alloc::{AllocError, AllocFailed};
 use thiserror::Error;
@@ -62,6 +63,18 @@ pub(crate) enum LineStop {
     Fault { code: AsmNo },
     /// Out of memory.
     NoMemory,
+}
+
+impl LineStop {
+    /// The refusal of a source by what stops the work on a line; lines count from 1.
+    pub(crate) fn refused_in(self, line: u32) -> AsmRefused
+        ensures { result ≡ refused_in_line line self }
+    {
+        match self {
+            LineStop::Fault { code } => AsmRefused::Fault { line, code },
+            LineStop::NoMemory => AsmRefused::NoMemory,
+        }
+    }
 }
 
 impl From<AsmNo> for LineStop {

@@ -124,15 +124,8 @@ impl Second {
             (map (λ l. l.now) lines.now))) }
     {
         for (i, line) in lines.iter().enumerate() {
-            match self.line(alloc, labels, *line) {
-                Ok(()) => {}
-                Err(LineStop::NoMemory) => return Err(AsmRefused::NoMemory),
-                Err(LineStop::Fault { code }) => {
-                    return Err(AsmRefused::Fault {
-                        line: i as u32 + 1,
-                        code,
-                    });
-                }
+            if let Err(stop) = self.line(alloc, labels, *line) {
+                return Err(stop.refused_in(i as u32 + 1));
             }
         }
         Ok(())
