@@ -3,9 +3,10 @@
 ghost use Rattle.std.specs.Prelude.{◌≡◌, ◌+◌, ◌≤◌, IfOk, OnOk, vec_len};
 ghost use Rattle.timer_unit.specs.Time.{most_cycles};
 
-use crate::plant::Plant;
 use commands::Program;
+use example_plants::HeatedBody;
 use fp_ports::{Ports, feed_port, latch_of};
+use loop_runs::Plant;
 use machine::Machine;
 use std::alloc::{AllocError, Global};
 
@@ -18,11 +19,8 @@ const CYCLES: u64 = 100;
 /// The number of such steps of the plant in a period of the controller.
 const STEPS: u8 = 8;
 
-/// The cycle from which the plant has a load.
-const LOADED: u64 = 64_000;
-
-/// The load, with 16 fractional bits.
-const LOAD: i32 = 4 * 0x1_0000;
+/// The step of the plant in which its load begins: 640 steps are 64,000 cycles.
+const LOADED: u32 = 640;
 
 /// The machine, with a plant that the latch of the controller's port drives. The plant's response
 /// is shown at that port.
@@ -30,12 +28,12 @@ const LOAD: i32 = 4 * 0x1_0000;
 pub struct ControlLoop {
     machine: Machine,
     ports: Ports,
-    plant: Plant,
+    plant: HeatedBody,
 }
 
 impl ControlLoop {
     /// The machine of a setup and its image at cycle 0, with devices that show the words they are
-    /// fed, and the plant at rest. The setup's inputs are ignored.
+    /// fed, and a cold plant. The setup's inputs are ignored.
     ///
     /// # Errors
     ///
@@ -48,7 +46,7 @@ impl ControlLoop {
         Ok(ControlLoop {
             machine: Machine::load(alloc, &program.setup, &program.image)?,
             ports,
-            plant: Plant::REST,
+            plant: HeatedBody::cold(LOADED),
         })
     }
 
@@ -68,7 +66,7 @@ impl ControlLoop {
 
     /// The value of the plant's sensor.
     pub fn measured(&self) -> i32 {
-        self.plant.measured()
+        self.plant.word().cast_signed()
     }
 
     /// Runs for a period of the controller.
@@ -99,11 +97,8 @@ impl ControlLoop {
         for _cycle in 0..CYCLES {
             self.machine.tick(&mut self.ports);
         }
-        let now = self.machine.cycle();
-        let load = if now < LOADED { 0 } else { LOAD };
-        let drive = self.drive();
-        self.plant.step(drive, load);
-        let shown = self.plant.measured().cast_unsigned();
-        feed_port(&mut self.ports, CONTROLLER, now, shown)
+        let drive = self.drive().cast_unsigned();
+        let shown = self.plant.step(drive);
+        feed_port(&mut self.ports, CONTROLLER, self.machine.cycle(), shown)
     }
 }

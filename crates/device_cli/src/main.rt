@@ -8,7 +8,6 @@ ghost use Rattle.std.specs.Prelude.{◌≡◌, vec_len};
 mod closed_loop;
 mod control_loop;
 mod fixed;
-mod plant;
 
 use flexpret_top::{Status, flexpret};
 use fp_io::{Gathered, OutSink, PutFailed, RealFiles};
