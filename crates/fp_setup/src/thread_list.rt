@@ -68,7 +68,7 @@ impl Model for Threads {
 }
 
 impl Threads {
-    ghost use Rattle.std.specs.Prelude.{IsTrue, replicate, slice_set};
+    ghost use Rattle.std.specs.Prelude.{IsTrue, replicate, slice_set, map, length, ◌≡◌};
     ghost use Rattle.std.specs.List.{All, list_all};
     ghost use Rattle.fp_setup.specs.declared.thread_list.ThreadSetup.{ThreadSetup};
     ghost use Rattle.fp_setup.specs.Threads.{AreThreads, IsThread};
@@ -107,6 +107,15 @@ impl Threads {
             threads.set(thread, ThreadSetup::plain(alloc, entry, confined));
         }
         threads
+    }
+
+    /// The settings of each thread.
+    pub fn each(&self) -> [&ThreadSetup; 8]
+        ensures settings { map (λ t. t.now) result ≡ self.now }
+        ensures eight { length result ≡ 8 }
+        ensures rules { AreThreads self.now }
+    {
+        self.items.each_ref()
     }
 
     /// Replaces the settings of a thread.

@@ -1,4 +1,5 @@
 pub mod Opened
+mod Mapped
 mod PortLemmas
 mod FieldLines
 pub mod FeedLemmas

@@ -1,13 +1,12 @@
 -- The machine at its start refines cycle 0.
 use Rattle.std.proofs.Common.{◌≡◌, ℕ, ◌/◌, Bool, true, false, List, [], ◌∷◌, get_or, map}
 use Rattle.std.proofs.Common.{length, Option, Some, None, arith, refl, ap, sym, subst, ◌∙◌}
-use Rattle.std.specs.Prelude.{slice_get, is_some, IfSome, ◌&&◌, if◌then◌else◌, replicate}
+use Rattle.std.specs.Prelude.{is_some, IfSome, ◌&&◌, if◌then◌else◌, replicate}
 use Rattle.std.proofs.lemmas.Bool.Decides.{nat_tests}
 use Rattle.std.proofs.lemmas.List.{length-map}
 use Rattle.std.proofs.Math.ListN.{get_or-map}
 use Rattle.std.proofs.lemmas.List.FromFn.{fill_by_all, get_or-map-range_with_len}
 use Rattle.std.proofs.lemmas.List.FromFn.{length-map-range_with_len}
-use Rattle.std.proofs.lemmas.Option.{get_or_from_slice_get}
 use Rattle.fp_image.specs.declared.parts.Segment.{Segment}
 use Rattle.fp_ports.specs.PluggedPorts.{Row, row_at}
 use Rattle.fp_ports.specs.ShownWords.{is_gone, shown_at, shown}
@@ -33,24 +32,6 @@ pub eight_are : {A : Type 0} → (xs : List A) (d : A) → length xs ≡ 8 →
     xs ≡ get_or xs 0 d ∷ get_or xs 1 d ∷ get_or xs 2 d ∷ get_or xs 3 d ∷ get_or xs 4 d
     ∷ get_or xs 5 d ∷ get_or xs 6 d ∷ get_or xs 7 d ∷ []
 eight_are xs d eight = fill_by_all (λ k. get_or xs k d) xs 8 d eight (λ k h. refl)
-
-pub eight_said : {A B : Type 0} → (f : A → B) (xs ys : List A) (d a b c e g h i j : A) →
-    xs ≡ ys → length xs ≡ 8 → slice_get xs 0 ≡ Some a →
-    slice_get xs 1 ≡ Some b → slice_get xs 2 ≡ Some c → slice_get xs 3 ≡ Some e →
-    slice_get xs 4 ≡ Some g → slice_get xs 5 ≡ Some h → slice_get xs 6 ≡ Some i →
-    slice_get xs 7 ≡ Some j → f a ∷ f b ∷ f c ∷ f e ∷ f g ∷ f h ∷ f i ∷ f j ∷ [] ≡ map f ys
-eight_said f xs ys d a b c e g h i j same eight p0 p1 p2 p3 p4 p5 p6 p7 =
-    let q0 : get_or xs 0 d ≡ a = get_or_from_slice_get xs 0 a d p0 in
-    let q1 : get_or xs 1 d ≡ b = get_or_from_slice_get xs 1 b d p1 in
-    let q2 : get_or xs 2 d ≡ c = get_or_from_slice_get xs 2 c d p2 in
-    let q3 : get_or xs 3 d ≡ e = get_or_from_slice_get xs 3 e d p3 in
-    let q4 : get_or xs 4 d ≡ g = get_or_from_slice_get xs 4 g d p4 in
-    let q5 : get_or xs 5 d ≡ h = get_or_from_slice_get xs 5 h d p5 in
-    let q6 : get_or xs 6 d ≡ i = get_or_from_slice_get xs 6 i d p6 in
-    let q7 : get_or xs 7 d ≡ j = get_or_from_slice_get xs 7 j d p7 in
-    let list : xs ≡ a ∷ b ∷ c ∷ e ∷ g ∷ h ∷ i ∷ j ∷ [] =
-    eight_are xs d eight ∙ rw (q0, q1, q2, q3, q4, q5, q6, q7) refl in
-    sym (ap (map f) (sym same ∙ list))
 
 pub length-words : (image : List Segment) (base size : ℕ) →
     length (words_from image base size) ≡ size / 4

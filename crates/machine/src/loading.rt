@@ -30,51 +30,21 @@ fn entries(setup: &Setup) -> [u32; 8]
     ensures pcs { All IsPc result }
     ensures eight { length setup.now.threads ≡ 8 }
 {
-    let threads = &setup.threads;
-    [
-        threads.get(0).entry,
-        threads.get(1).entry,
-        threads.get(2).entry,
-        threads.get(3).entry,
-        threads.get(4).entry,
-        threads.get(5).entry,
-        threads.get(6).entry,
-        threads.get(7).entry,
-    ]
+    setup.threads.each().map(|thread| thread.entry)
 }
 
 /// Whether each thread is confined.
 fn confined(setup: &Setup) -> [bool; 8]
     ensures { result ≡ map (λ (t : ThreadSetup). t.confined) setup.now.threads }
 {
-    let threads = &setup.threads;
-    [
-        threads.get(0).confined,
-        threads.get(1).confined,
-        threads.get(2).confined,
-        threads.get(3).confined,
-        threads.get(4).confined,
-        threads.get(5).confined,
-        threads.get(6).confined,
-        threads.get(7).confined,
-    ]
+    setup.threads.each().map(|thread| thread.confined)
 }
 
 /// Whether each thread may access the configuration registers.
 fn permits(setup: &Setup) -> [bool; 8]
     ensures { result ≡ map (λ (t : ThreadSetup). t.permit) setup.now.threads }
 {
-    let threads = &setup.threads;
-    [
-        threads.get(0).permit,
-        threads.get(1).permit,
-        threads.get(2).permit,
-        threads.get(3).permit,
-        threads.get(4).permit,
-        threads.get(5).permit,
-        threads.get(6).permit,
-        threads.get(7).permit,
-    ]
+    setup.threads.each().map(|thread| thread.permit)
 }
 
 /// For each thread, the cycle from which its issues find no port; None if its port is never
@@ -82,17 +52,7 @@ fn permits(setup: &Setup) -> [bool; 8]
 fn unplugs(setup: &Setup) -> [Option<u64>; 8]
     ensures { result ≡ map (λ (t : ThreadSetup). t.unplug) setup.now.threads }
 {
-    let threads = &setup.threads;
-    [
-        threads.get(0).unplug,
-        threads.get(1).unplug,
-        threads.get(2).unplug,
-        threads.get(3).unplug,
-        threads.get(4).unplug,
-        threads.get(5).unplug,
-        threads.get(6).unplug,
-        threads.get(7).unplug,
-    ]
+    setup.threads.each().map(|thread| thread.unplug)
 }
 
 /// The words of a scratchpad that begins at an address.
