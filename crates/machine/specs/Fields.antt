@@ -1,5 +1,5 @@
 -- The lines of a dump from the machine's fields, each by its number.
-use Rattle.std.specs.Prelude.{ℕ, ◌+◌, ◌-◌, ◌*◌, ◌/◌, ◌%◌, ◌==◌, nat_lt, not, ◌||◌, if◌then◌else◌}
+use Rattle.std.specs.Prelude.{◌≡◌, ℕ, ◌+◌, ◌-◌, ◌*◌, ◌/◌, ◌%◌, ◌==◌, nat_lt, not, ◌||◌, if◌then◌else◌}
 use Rattle.std.specs.Prelude.{List, [], flat_map, slice_index_or, Bool, true, codes}
 use Rattle.std.specs.List.{range_with_len}
 use Rattle.region_guard.specs.Regions.{may_fetch}
@@ -41,6 +41,12 @@ decoded_held size confined iregions stage.Bubble = Nothing
 decoded_held size confined iregions (stage.Flushed k) = Flushed k
 decoded_held size confined iregions (stage.Issue k x) =
     Issue k x.pc (shown_word size confined iregions k x)
+
+-- what a stage behind D shows, where R relates an instruction's data to its address and word
+abbrev pub IsTurnShown : {T : Type 0} → (T → ℕ × ℕ → Type 0) → InStage T → StageContent → Type 0
+IsTurnShown R stage.Bubble shown = shown ≡ Nothing
+IsTurnShown R (stage.Flushed k) shown = shown ≡ Flushed k
+IsTurnShown R (stage.Issue k x) shown = (pc word : ℕ) × R x (pc, word) × (shown ≡ Issue k pc word)
 
 -- the content of the third stage
 abbrev pub executed_held : InStage Executed → StageContent

@@ -1,6 +1,6 @@
 //! The lines of a dump, each by its number.
 
-ghost use Rattle.std.specs.Prelude.{◌≡◌, ◌+◌, ◌/◌, ◌<◌, ◌≤◌, ◌*◌, ◌==◌, []};
+ghost use Rattle.std.specs.Prelude.{◌≡◌, ℕ, ◌+◌, ◌/◌, ◌<◌, ◌≤◌, ◌*◌, ◌==◌, []};
 ghost use Rattle.std.specs.Prelude.{true, vec_len, slice_index_or, length};
 ghost use Rattle.std.specs.List.{list_all};
 ghost use Rattle.fp_ports.specs.PluggedPorts.{rows_of, row_at, latch_seen};
@@ -8,7 +8,8 @@ ghost use Rattle.core_model.specs.Thread.{reg_in};
 ghost use Rattle.trace_print.specs.DumpLines.{latch_text, thread_words_text};
 ghost use Rattle.machine.specs.DumpedState.{eight_from, traps_seen, timer_seen, words_seen};
 ghost use Rattle.machine.specs.Fields.{fetched_held, decoded_held, shown_word};
-ghost use Rattle.machine.specs.Fields.{executed_held, stored_held, written_held};
+ghost use Rattle.machine.specs.Fields.{executed_held, stored_held, written_held, IsTurnShown};
+ghost use Rattle.pipe_model.specs.declared.stage_registers.Held.TheVariants as stage;
 ghost use Rattle.machine.specs.Fields.{first_of_memory, head_line, head_lines, thread_line};
 ghost use Rattle.machine.specs.MachineDump.{line_of};
 ghost use Rattle.timer_unit.specs.Time.{timer_of};
@@ -45,49 +46,40 @@ fn fetched_shown(held: &Held<Fetched>) -> Shown
     }
 }
 
-/// Shows E.
-fn executed_shown(held: &Held<Executed>) -> Shown
-    ensures { result ≡ executed_held held.now }
+/// Shows a turn in E, M or W, with the address and the word of its instruction.
+fn turn_shown<T: Copy, F: FnOnce(T) -> (u32, u32)>(held: Held<T>, named: F) -> Shown
+    requires { (k : ℕ) (x : T) → held ≡ stage.Issue k x → F.pre named x }
+    ensures { IsTurnShown (F.post named) held result }
 {
-    match *held {
+    match held {
         Held::Bubble => Shown::Nothing,
         Held::Flushed { thread } => Shown::Flushed { thread },
-        Held::Issue { thread, what } => Shown::Issue {
-            thread,
-            pc: what.pc,
-            word: what.word,
-        },
+        Held::Issue { thread, what } => {
+            let (pc, word) = named(what);
+            Shown::Issue { thread, pc, word }
+        }
     }
+}
+
+/// Shows E.
+fn executed_shown(held: Held<Executed>) -> Shown
+    ensures { result ≡ executed_held held }
+{
+    turn_shown(held, |what| (what.pc, what.word))
 }
 
 /// Shows M.
-fn stored_shown(held: &Held<Stored>) -> Shown
-    ensures { result ≡ stored_held held.now }
+fn stored_shown(held: Held<Stored>) -> Shown
+    ensures { result ≡ stored_held held }
 {
-    match *held {
-        Held::Bubble => Shown::Nothing,
-        Held::Flushed { thread } => Shown::Flushed { thread },
-        Held::Issue { thread, what } => Shown::Issue {
-            thread,
-            pc: what.pc,
-            word: what.word,
-        },
-    }
+    turn_shown(held, |what| (what.pc, what.word))
 }
 
 /// Shows W.
-fn written_shown(held: &Held<Written>) -> Shown
-    ensures { result ≡ written_held held.now }
+fn written_shown(held: Held<Written>) -> Shown
+    ensures { result ≡ written_held held }
 {
-    match *held {
-        Held::Bubble => Shown::Nothing,
-        Held::Flushed { thread } => Shown::Flushed { thread },
-        Held::Issue { thread, what } => Shown::Issue {
-            thread,
-            pc: what.pc,
-            word: what.word,
-        },
-    }
+    turn_shown(held, |what| (what.pc, what.word))
 }
 
 /// Whether all words are 0.
@@ -163,9 +155,9 @@ impl Machine {
             0 => cycles_line(self.at),
             1 => stage_line("F", &fetched_shown(&self.pipe.f)),
             2 => stage_line("D", &self.decoded_shown()),
-            3 => stage_line("E", &executed_shown(&self.pipe.e)),
-            4 => stage_line("M", &stored_shown(&self.pipe.m)),
-            5 => stage_line("W", &written_shown(&self.pipe.w)),
+            3 => stage_line("E", &executed_shown(self.pipe.e)),
+            4 => stage_line("M", &stored_shown(self.pipe.m)),
+            5 => stage_line("W", &written_shown(self.pipe.w)),
             6 => word_line("slots", self.units.sched.slots.word()),
             7 => word_line("modes", self.units.sched.modes.word()),
             8 => word_line("dregions", self.units.guard.d.word()),
