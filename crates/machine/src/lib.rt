@@ -15,6 +15,7 @@ mod running;
 mod sleeping;
 mod state;
 mod thread_lines;
+mod unplugging;
 mod unseen;
 
 pub use feeding::{feed_inputs, feeds_the_start};
