@@ -5,6 +5,7 @@
 
 mod draft;
 mod edges;
+mod nesting;
 mod reach;
 mod refusals;
 mod section;

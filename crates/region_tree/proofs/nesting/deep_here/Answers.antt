@@ -1,5 +1,5 @@
 use Rattle.std.proofs.Common.{rules}
-use Rattle.region_tree.proofs.refusals.deep_here.Goals as goal
+use Rattle.region_tree.proofs.nesting.deep_here.Goals as goal
 
 pub returns-then-depth-gt-DEEPEST : goal.returns-then-depth-gt-DEEPEST
 returns-then-depth-gt-DEEPEST c = search rules

@@ -1,7 +1,7 @@
 use Rattle.std.proofs.Common.{◌+◌, arith, sym, subst}
 use Rattle.region_tree.specs.Search.{Before, DeepHere, LowestOf}
 use Rattle.region_tree.proofs.LowestLaws.{lowest-next, deep-all}
-use Rattle.region_tree.proofs.refusals.deep.Goals as goal
+use Rattle.region_tree.proofs.nesting.deep.Goals as goal
 
 pub loop-index-preserved : goal.loop-index-preserved
 loop-index-preserved c =

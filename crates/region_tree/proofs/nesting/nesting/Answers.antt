@@ -4,7 +4,7 @@ use Rattle.region_tree.specs.Search.{LowestOf}
 use Rattle.region_tree.specs.Tree.{graph}
 use Rattle.std.proofs.Common.{◌⊎◌}
 use Rattle.region_tree.proofs.LowestLaws.{lowest-either}
-use Rattle.region_tree.proofs.refusals.nesting.Goals as goal
+use Rattle.region_tree.proofs.nesting.nesting.Goals as goal
 
 pub returns : goal.returns
 returns c =

@@ -1,7 +1,7 @@
 use Rattle.std.proofs.Common.{◌+◌, arith, sym, subst}
 use Rattle.region_tree.specs.Search.{Before, EnteredHere, LowestOf}
 use Rattle.region_tree.proofs.LowestLaws.{lowest-next, entered-by}
-use Rattle.region_tree.proofs.refusals.entered_by.Goals as goal
+use Rattle.region_tree.proofs.nesting.entered_by.Goals as goal
 
 pub loop-index-preserved : goal.loop-index-preserved
 loop-index-preserved c =

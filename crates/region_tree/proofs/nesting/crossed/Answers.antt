@@ -1,7 +1,7 @@
 use Rattle.std.proofs.Common.{◌+◌, arith, sym, subst}
 use Rattle.region_tree.specs.Search.{Before, CrossedHere, LowestOf}
 use Rattle.region_tree.proofs.LowestLaws.{lowest-next, crossed-all}
-use Rattle.region_tree.proofs.refusals.crossed.Goals as goal
+use Rattle.region_tree.proofs.nesting.crossed.Goals as goal
 
 pub loop-later-preserved : goal.loop-later-preserved
 loop-later-preserved c =

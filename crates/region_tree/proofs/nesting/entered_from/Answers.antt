@@ -1,7 +1,7 @@
 use Rattle.std.proofs.Common.{subst}
 use Rattle.region_tree.specs.Search.{EnteredBy, LowestOf, address}
 use Rattle.region_tree.proofs.LowestLaws.{entered-from}
-use Rattle.region_tree.proofs.refusals.entered_from.Goals as goal
+use Rattle.region_tree.proofs.nesting.entered_from.Goals as goal
 
 pub returns : goal.returns
 returns c =
