@@ -2,6 +2,7 @@
 
 ghost use Rattle.std.specs.Prelude.{◌≡◌, ℕ, ◌^◌, ◌-◌, ◌<◌, ◌≤◌, length, vec_len, OnOk, OnErr};
 ghost use Rattle.fp_ports.specs.PluggedPorts.{rows_of};
+ghost use Rattle.core_model.specs.Cycles.{cycles_to_m};
 ghost use Rattle.core_model.specs.World.{Start};
 ghost use Rattle.machine.specs.WorldRelation.{Refines};
 ghost use Rattle.loop_runs.specs.FedRuns.{AllForgot, FeedsRunning};
@@ -60,8 +61,8 @@ pub fn keeps_three()
 /// allocates no memory.
 pub fn forget_past(machine: &Machine, ports: &mut Ports)
     requires eight { vec_len ports.old ≡ 8 }
-    ensures forgot { AllForgot (machine.now.at - 3) (rows_of latched word_at ports.old.items)
-        (rows_of latched word_at ports.new.items) }
+    ensures forgot { AllForgot (machine.now.at - cycles_to_m)
+        (rows_of latched word_at ports.old.items) (rows_of latched word_at ports.new.items) }
     ensures refines { (s : Start) (n : ℕ)
         → Refines s machine.now.at n machine.now (rows_of latched word_at ports.old.items)
         → Refines s machine.now.at n machine.now (rows_of latched word_at ports.new.items) }
