@@ -10,6 +10,7 @@ ghost use Rattle.bound_calc.specs.Tops.{IsTop};
 use crate::hop::{Hop, HopRow};
 use crate::matrix::{Matrix, take_in};
 
+/// The greater of two costs, in cycles.
 fn greater(a: u128, b: u128) -> u128
     ensures { result ≡ max a b }
 {
@@ -78,6 +79,7 @@ fn larger_advanced(sum: Option<u128>, hop: Option<Hop>, most: u128) -> u128
     greater(most, sum.saturating_add(u128::from(hop.cost)))
 }
 
+/// The largest cost, in cycles, of one of a row's paths and the edge behind it.
 fn largest_advanced_row(row: &[Option<u128>; 8], hops: &HopRow, most: u128) -> u128
     ensures { IsFarthest row.now hops.now.hops 8 most result }
 {
@@ -100,6 +102,7 @@ pub fn largest_advanced(here: &Matrix, hops: &HopRow, most: u128) -> u128
     farthest
 }
 
+/// The largest cost of a row, in cycles, or `most` if that is larger.
 fn largest_row(row: &[Option<u128>; 8], most: u128) -> u128
     ensures stays { most ≤ result }
     ensures upper { (q d : ℕ) → q < 8 → slice_index_or row.now q None ≡ Some d

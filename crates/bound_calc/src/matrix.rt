@@ -24,6 +24,7 @@ pub fn larger(a: Option<u128>, b: Option<u128>) -> Option<u128>
     }
 }
 
+/// The cost of two paths, one behind the other. It saturates.
 #[tactic(auto, unfolding(crate::specs::Matrices::sum_of))]
 fn sum(a: Option<u128>, b: Option<u128>) -> Option<u128>
     ensures { result ≡ sum_of a b }
@@ -67,6 +68,7 @@ fn take_sums(first: Option<u128>, second: &[Option<u128>; 8], onto: &mut [Option
     }
 }
 
+/// For each position in the frame, the larger cost of two rows.
 fn join_row(a: &[Option<u128>; 8], b: &[Option<u128>; 8]) -> [Option<u128>; 8]
     ensures { (q : ℕ) → q < 8 → slice_index_or result q None ≡
         larger_of (slice_index_or a.now q None) (slice_index_or b.now q None) }

@@ -11,6 +11,7 @@ use region_guard::{DATA_START, SMALL_SIZE};
 use std::alloc::AllocError;
 use std::collections::BTreeSet;
 
+/// Whether an address lies in one of the scratchpads of version 1.
 fn is_inside(a: u32) -> bool
     ensures { result ≡ is_inside_of a }
 {
@@ -51,6 +52,7 @@ fn are_free(taken: &BTreeSet<u32>, location: u32, n: u32) -> bool
     true
 }
 
+/// Marks the addresses of `n` words from `location` on as taken.
 #[tactic(auto, using(crate::proofs::WordByWord::counting))]
 fn take(taken: &mut BTreeSet<u32>, location: u32, n: u32) -> Result<(), AllocError>
     ensures { OnOk result (taken.new.keys ≡ with_taken taken.old.keys (addresses location n)) }

@@ -60,6 +60,7 @@ impl<'a> First<'a> {
         }
     }
 
+    /// Takes a line: its label, and the addresses that its statement takes.
     #[tactic(auto, unfolding(crate::specs::First::first_line, crate::specs::First::placed_by))]
     fn line(&mut self, alloc: Global, line: &'a [u8]) -> Result<(), LineStop>
         requires { length line.now < 2 ^ 32 }

@@ -30,6 +30,7 @@ pub(crate) fn nothing_given<'a>() -> Operands<'a>
     }
 }
 
+/// The register of an operand that is a register's name.
 #[tactic(auto, unfolding(crate::specs::Operands::register_in))]
 fn register_in(pieces: &[Piece]) -> Option<u8>
     ensures number { result ≡ register_in_of (map abstract_piece pieces.now) }
@@ -41,6 +42,7 @@ fn register_in(pieces: &[Piece]) -> Option<u8>
     }
 }
 
+/// The number of an operand, with its sign.
 #[tactic(auto, unfolding(crate::specs::Operands::number_in))]
 fn number_in(pieces: &[Piece]) -> Option<i64>
     ensures { result ≡ number_in_of (map abstract_piece pieces.now) }
@@ -63,6 +65,7 @@ fn plain_in<'a>(pieces: &[Piece<'a>]) -> Option<Target<'a>>
     }
 }
 
+/// The target of an operand: a number, or a label with an offset in bytes.
 #[tactic(auto, unfolding(crate::specs::Operands::target_in))]
 fn target_in<'a>(pieces: &[Piece<'a>]) -> Option<Target<'a>>
     ensures { option_map abstract_target result
@@ -85,6 +88,7 @@ fn target_in<'a>(pieces: &[Piece<'a>]) -> Option<Target<'a>>
     }
 }
 
+/// The CSR's number of an operand: a number, or a CSR's name.
 #[tactic(auto, unfolding(crate::specs::Operands::csr_in))]
 fn csr_in(pieces: &[Piece]) -> Option<u32>
     ensures { result ≡ csr_in_of (map abstract_piece pieces.now) }
@@ -96,6 +100,7 @@ fn csr_in(pieces: &[Piece]) -> Option<u32>
     }
 }
 
+/// The offset in bytes and the base register of an operand such as `8(x2)`.
 #[tactic(auto, unfolding(crate::specs::Operands::memory_in))]
 fn memory_in(pieces: &[Piece]) -> Option<(i64, u8)>
     ensures memory { result ≡ memory_in_of (map abstract_piece pieces.now) }

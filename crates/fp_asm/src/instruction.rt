@@ -40,6 +40,7 @@ fn up_to(most: u32, number: i64) -> Option<u32>
     }
 }
 
+/// An instruction with an immediate of 12 bits, such as ADDI.
 #[tactic(auto, unfolding(crate::specs::Words::instruction))]
 fn op_imm(op: ImmOp, operands: &Operands) -> Option<Ins>
     requires { HasRegisters (abstract_operands operands.now) }
@@ -56,6 +57,7 @@ fn op_imm(op: ImmOp, operands: &Operands) -> Option<Ins>
     })
 }
 
+/// A shift by an amount of up to 31 bits.
 #[tactic(auto, unfolding(crate::specs::Words::instruction))]
 fn shift(op: ShiftOp, operands: &Operands) -> Option<Ins>
     requires { HasRegisters (abstract_operands operands.now) }
@@ -72,6 +74,7 @@ fn shift(op: ShiftOp, operands: &Operands) -> Option<Ins>
     })
 }
 
+/// A load, with an offset of 12 bits.
 #[tactic(auto, unfolding(crate::specs::Words::instruction))]
 fn load(op: LoadOp, operands: &Operands) -> Option<Ins>
     requires { HasRegisters (abstract_operands operands.now) }
@@ -88,6 +91,7 @@ fn load(op: LoadOp, operands: &Operands) -> Option<Ins>
     })
 }
 
+/// A store, with an offset of 12 bits.
 #[tactic(auto, unfolding(crate::specs::Words::instruction))]
 fn store(op: StoreOp, operands: &Operands) -> Option<Ins>
     requires { HasRegisters (abstract_operands operands.now) }
@@ -104,6 +108,7 @@ fn store(op: StoreOp, operands: &Operands) -> Option<Ins>
     })
 }
 
+/// JALR, with an offset of 12 bits.
 #[tactic(auto, unfolding(crate::specs::Words::instruction))]
 fn jalr(operands: &Operands) -> Option<Ins>
     requires { HasRegisters (abstract_operands operands.now) }
@@ -118,6 +123,7 @@ fn jalr(operands: &Operands) -> Option<Ins>
     })
 }
 
+/// LUI, with an immediate of 20 bits.
 #[tactic(auto, unfolding(crate::specs::Words::instruction))]
 fn lui(operands: &Operands) -> Option<Ins>
     requires { HasRegisters (abstract_operands operands.now) }
@@ -131,6 +137,7 @@ fn lui(operands: &Operands) -> Option<Ins>
     })
 }
 
+/// AUIPC, with an immediate of 20 bits.
 #[tactic(auto, unfolding(crate::specs::Words::instruction))]
 fn auipc(operands: &Operands) -> Option<Ins>
     requires { HasRegisters (abstract_operands operands.now) }
@@ -144,6 +151,7 @@ fn auipc(operands: &Operands) -> Option<Ins>
     })
 }
 
+/// A CSR instruction with a source register.
 #[tactic(auto, unfolding(crate::specs::Words::instruction))]
 fn csr(op: CsrKind, operands: &Operands) -> Option<Ins>
     requires { HasRegisters (abstract_operands operands.now) }
@@ -160,6 +168,7 @@ fn csr(op: CsrKind, operands: &Operands) -> Option<Ins>
     })
 }
 
+/// A CSR instruction with an immediate of five bits.
 #[tactic(auto, unfolding(crate::specs::Words::instruction))]
 fn csr_imm(op: CsrKind, operands: &Operands) -> Option<Ins>
     requires { HasRegisters (abstract_operands operands.now) }

@@ -15,6 +15,7 @@ use std::collections::BTreeMap;
 /// The locations of labels; their names are slices of the source.
 pub(crate) type Labels<'a> = BTreeMap<&'a [u8], u32>;
 
+/// Gives a label its address. A label that has one already is refused.
 #[tactic(auto, using(crate::proofs::LabelByLabel::added))]
 fn add_label<'a>(labels: &mut Labels<'a>, name: &'a [u8], location: u32) -> Result<(), LineStop>
     ensures ok { OnOk result (with_label location (abstract_labels labels.old) name.now
@@ -30,6 +31,7 @@ fn add_label<'a>(labels: &mut Labels<'a>, name: &'a [u8], location: u32) -> Resu
     }
 }
 
+/// The label that a line begins with: a name and a colon.
 #[tactic(auto, unfolding(crate::specs::First::has_label))]
 fn label_at<'a>(pieces: &[Piece<'a>]) -> Option<&'a [u8]>
     ensures some { IfSome result (λ x. map abstract_piece pieces.now ≡ name x.now

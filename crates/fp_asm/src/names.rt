@@ -92,6 +92,7 @@ static CSRS: [Name; 9] = [
     (b"iregions", csr::IREGIONS as u32),
 ];
 
+/// Each register's names, `x5` and `t0`, with its number.
 #[tactic(auto, unfolding(crate::specs::Names::registers))]
 fn register_names() -> &'static [Name]
     ensures { map abstract_name result.now ≡ registers }
@@ -99,6 +100,7 @@ fn register_names() -> &'static [Name]
     &REGISTERS
 }
 
+/// Each CSR's name with its number.
 #[tactic(auto, unfolding(crate::specs::Names::csrs))]
 fn csr_names() -> &'static [Name]
     ensures { map abstract_name result.now ≡ csrs }
@@ -106,12 +108,14 @@ fn csr_names() -> &'static [Name]
     &CSRS
 }
 
+/// The first row of a table with this name.
 fn row_of(names: &'static [Name], text: &[u8]) -> Option<&'static Name>
     ensures { option_copied result ≡ find (λ row. bytes_eq row.0.now text.now) names.now }
 {
     names.iter().find(|row| row.0 == text)
 }
 
+/// The number that a table has for a name.
 #[tactic(auto, using(crate::proofs::Rows::found_number))]
 fn number_of(names: &'static [Name], text: &[u8]) -> Option<u32>
     ensures { result ≡ value_named (map abstract_name names.now) text.now }

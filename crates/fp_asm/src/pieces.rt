@@ -33,6 +33,7 @@ pub(crate) enum Piece<'a> {
     Minus,
 }
 
+/// The piece of a mark's byte.
 fn mark<'a>(byte: u32) -> Piece<'a>
     ensures { abstract_piece result ≡ mark_of byte }
 {
@@ -46,6 +47,7 @@ fn mark<'a>(byte: u32) -> Piece<'a>
     }
 }
 
+/// The piece of a token: its kind, with its text or value.
 #[tactic(auto, unfolding(crate::specs::Pieces::piece))]
 fn piece_at<'a>(line: &'a [u8], token: &Token) -> Piece<'a>
     requires order { token.now.start ≤ token.now.end }
@@ -61,6 +63,7 @@ fn piece_at<'a>(line: &'a [u8], token: &Token) -> Piece<'a>
     }
 }
 
+/// The tokens of a line, at most 64.
 #[tactic(auto, unfolding(crate::specs::Pieces::pieces_of))]
 fn lexed(alloc: Global, line: &[u8]) -> Result<Tokens, LineStop>
     requires { length line.now < 2 ^ 32 }
@@ -76,6 +79,7 @@ fn lexed(alloc: Global, line: &[u8]) -> Result<Tokens, LineStop>
     }
 }
 
+/// The pieces of a line's tokens, in order.
 fn pieces_at<'a>(
     alloc: Global,
     line: &'a [u8],
@@ -108,12 +112,14 @@ pub(crate) fn pieces<'a>(alloc: Global, line: &'a [u8]) -> Result<Vec<Piece<'a>>
     Ok(pieces_at(alloc, line, tokens.as_slice())?)
 }
 
+/// Whether a piece parts two operands.
 fn is_comma(piece: &Piece) -> bool
     ensures { result ≡ is_comma_of (abstract_piece piece.now) }
 {
     matches!(piece, Piece::Comma)
 }
 
+/// The operands of a statement: the pieces between its commas.
 fn between_commas<'p, 'a>(
     alloc: Global,
     pieces: &'p [Piece<'a>],

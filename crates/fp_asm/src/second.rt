@@ -73,6 +73,7 @@ impl Second {
         Ok(())
     }
 
+    /// Takes a line: puts the words of its statement where they belong.
     #[tactic(auto, unfolding(crate::specs::Second::second_line))]
     fn line(&mut self, alloc: Global, labels: &Labels, line: &[u8]) -> Result<(), LineStop>
         requires short { length line.now < 2 ^ 32 }

@@ -10,6 +10,7 @@ use super::operands::Operands;
 use super::statement::Statement;
 use super::table::Makes;
 
+/// The absolute value of the number in the operands.
 fn magnitude(operands: &Operands) -> u64
     ensures { result ≡ nat_abs operands.now.given }
 {

@@ -31,6 +31,7 @@ pub(crate) struct Statement<'a> {
     pub(crate) values: Vec<Target<'a>>,
 }
 
+/// Whether a statement makes words: an instruction or `.word`.
 fn is_words(makes: Makes) -> bool
     ensures { result ≡ is_words_of makes }
 {

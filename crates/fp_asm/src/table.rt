@@ -215,6 +215,7 @@ static SHORTHANDS: [Row; 16] = [
     row!(b".space", [Number], Space),
 ];
 
+/// The mnemonics that compute a register from registers and an immediate.
 #[tactic(auto, unfolding(crate::specs::Mnemonics::mnemonics))]
 fn computing() -> &'static [Row]
     ensures { map abstract_mnemonic result.now ≡ take 27 mnemonics }
@@ -222,6 +223,7 @@ fn computing() -> &'static [Row]
     &COMPUTING
 }
 
+/// The mnemonics that jump, load, store, or reach a CSR or the timer.
 #[tactic(auto, unfolding(crate::specs::Mnemonics::mnemonics))]
 fn acting() -> &'static [Row]
     ensures { map abstract_mnemonic result.now ≡ take 35 (drop 27 mnemonics) }
@@ -229,6 +231,7 @@ fn acting() -> &'static [Row]
     &ACTING
 }
 
+/// The pseudo-instructions, such as `li` and `ret`.
 #[tactic(auto, unfolding(crate::specs::Mnemonics::mnemonics))]
 fn shorthands() -> &'static [Row]
     ensures { map abstract_mnemonic result.now ≡ drop 62 mnemonics }
@@ -236,6 +239,7 @@ fn shorthands() -> &'static [Row]
     &SHORTHANDS
 }
 
+/// The first row of a table with this mnemonic.
 fn row_of(rows: &'static [Row], text: &[u8]) -> Option<&'static Row>
     ensures { option_copied result ≡ find (λ row. bytes_eq row.name.now text.now) rows.now }
 {

@@ -74,6 +74,7 @@ pub(crate) fn fits_word(target: &Target) -> bool
     }
 }
 
+/// Whether each target's number fits into a word.
 fn each_fits(targets: &[Target]) -> bool
     ensures { result ≡ list_all (λ target. fits_word_of (abstract_target target)) targets.now }
 {

@@ -27,6 +27,7 @@ use super::targets::{all_fit, fits_word, resolve, resolve_all};
 use rv_decode::{BranchOp, Ins, encode};
 use std::alloc::Global;
 
+/// The distance in bytes from a word to a target, modulo 2^32.
 fn offset_to(location: u32, to: u32) -> i32
     ensures { result ≡ offset_of location to }
 {
@@ -52,6 +53,7 @@ fn jump(low: i32, high: i32, location: u32, to: u32) -> Result<i32, AsmNo>
     Ok(off)
 }
 
+/// The word of an instruction without a label.
 #[tactic(auto, unfolding(crate::specs::Second::plain_word))]
 fn plain(plain: Plain, operands: &Operands) -> Result<u32, AsmNo>
     requires { HasRegisters (abstract_operands operands.now) }
@@ -63,6 +65,7 @@ fn plain(plain: Plain, operands: &Operands) -> Result<u32, AsmNo>
     }
 }
 
+/// The word of a branch. Its offset is within 4 KiB, in steps of two bytes.
 #[tactic(auto, unfolding(crate::specs::Second::branch_word))]
 fn branch(op: BranchOp, labels: &Labels, location: u32, operands: &Operands) -> Result<u32, AsmNo>
     requires registers { HasRegisters (abstract_operands operands.now) }
@@ -80,6 +83,7 @@ fn branch(op: BranchOp, labels: &Labels, location: u32, operands: &Operands) -> 
     }))
 }
 
+/// The word of JAL. Its offset is within 1 MiB, in steps of two bytes.
 #[tactic(auto, unfolding(crate::specs::Second::jal_word))]
 fn jal(labels: &Labels, location: u32, operands: &Operands) -> Result<u32, AsmNo>
     requires registers { HasRegisters (abstract_operands operands.now) }
@@ -95,6 +99,7 @@ fn jal(labels: &Labels, location: u32, operands: &Operands) -> Result<u32, AsmNo
     }))
 }
 
+/// The words of `la`: LUI and ADDI, which together make the address.
 #[tactic(auto, unfolding(crate::specs::Second::address_words))]
 fn address(alloc: Global, labels: &Labels, operands: &Operands) -> Result<Vec<u32>, LineStop>
     requires { HasRegisters (abstract_operands operands.now) }
@@ -113,6 +118,7 @@ fn address(alloc: Global, labels: &Labels, operands: &Operands) -> Result<Vec<u3
     Ok(halves(alloc, operands.rd, v)?)
 }
 
+/// The words of `.word`: the value of each target.
 #[tactic(auto, unfolding(crate::specs::Second::value_words))]
 fn values(alloc: Global, labels: &Labels, targets: &[Target]) -> Result<Vec<u32>, LineStop>
     ensures words { IfOk result (λ words. value_words (abstract_labels labels.now)

@@ -32,6 +32,7 @@ pub fn write_image(alloc: Global, image: &Image) -> Result<Vec<u8>, AllocError>
     Ok(bytes)
 }
 
+/// Writes a segment: its address, its length in bytes, its bytes.
 fn push_segment(bytes: &mut Vec<u8>, segment: &Segment) -> Result<(), AllocError>
     requires { length segment.now.bytes < 2 ^ 32 }
     ensures { OnOk result (bytes.new.items ≡ bytes.old.items ++ segment_written segment.now) }
@@ -42,6 +43,7 @@ fn push_segment(bytes: &mut Vec<u8>, segment: &Segment) -> Result<(), AllocError
     bytes.extend_from_slice(body)
 }
 
+/// Writes a number as four bytes, the lowest first.
 fn push_number(bytes: &mut Vec<u8>, number: u32) -> Result<(), AllocError>
     ensures { OnOk result (bytes.new.items ≡ bytes.old.items ++ little_bytes 4 number) }
 {

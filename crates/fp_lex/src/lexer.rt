@@ -29,6 +29,7 @@ pub fn tokens(alloc: Global, line: &[u8]) -> Result<Tokens, LexNo>
     Ok(Tokens::from_vec(list_of(alloc, line)?))
 }
 
+/// The tokens of a line up to its end or a comment.
 #[tactic(auto, unfolding(crate::specs::Tokens::tokens_of))]
 fn list_of(alloc: Global, line: &[u8]) -> Result<Vec<Token>, LexNo>
     requires { length line.now < 2 ^ 32 }

@@ -3,6 +3,7 @@
 ghost use Rattle.std.specs.Prelude.{◌≡◌, ◌+◌, ◌*◌, ◌<◌, ◌^◌, IfSome};
 ghost use Rattle.fp_lex.specs.Bytes.{digit as digit_of, number_of, fit};
 
+/// The value of a decimal or hexadecimal digit.
 fn digit(b: u8) -> u32
     ensures value { result ≡ digit_of b }
     ensures small { result < 256 }

@@ -11,6 +11,7 @@ use super::bytes::{is_digit, is_head, is_hex, is_mark, is_rest};
 use super::number::number;
 use super::token::{Kind, LexNo, Token};
 
+/// The number of bytes at the start that a name may have.
 #[tactic(auto, unfolding(crate::specs::Bytes::run))]
 fn name_run(bytes: &[u8]) -> usize
     ensures length { result ≡ run is_rest_of bytes.now }
@@ -19,6 +20,7 @@ fn name_run(bytes: &[u8]) -> usize
     bytes.iter().take_while(|b| is_rest(**b)).count()
 }
 
+/// The number of decimal digits at the start.
 #[tactic(auto, unfolding(crate::specs::Bytes::run))]
 fn digit_run(bytes: &[u8]) -> usize
     ensures length { result ≡ run is_digit_of bytes.now }
@@ -27,6 +29,7 @@ fn digit_run(bytes: &[u8]) -> usize
     bytes.iter().take_while(|b| is_digit(**b)).count()
 }
 
+/// The number of hexadecimal digits at the start.
 #[tactic(auto, unfolding(crate::specs::Bytes::run))]
 fn hex_run(bytes: &[u8]) -> usize
     ensures length { result ≡ run is_hex_of bytes.now }
@@ -35,6 +38,7 @@ fn hex_run(bytes: &[u8]) -> usize
     bytes.iter().take_while(|b| is_hex(**b)).count()
 }
 
+/// Whether a name begins here.
 fn starts_name(bytes: &[u8]) -> bool
     ensures { result ≡ starts is_head_of bytes.now }
 {
@@ -44,6 +48,7 @@ fn starts_name(bytes: &[u8]) -> bool
     }
 }
 
+/// Whether a hexadecimal number's `0x` stands here.
 fn is_prefixed(bytes: &[u8]) -> bool
     ensures { result ≡ is_prefixed_of bytes.now }
 {
@@ -71,6 +76,7 @@ fn digits_at(i: u32, skip: usize, base: u32, count: usize, bytes: &[u8]) -> Resu
     }
 }
 
+/// The number that begins at column `i`, decimal or hexadecimal.
 #[tactic(auto, unfolding(crate::specs::Tokens::number_at))]
 fn number_at(i: u32, bytes: &[u8]) -> Result<Token, LexNo>
     requires { i + length bytes.now < 2 ^ 32 }
@@ -114,6 +120,7 @@ fn token_at(i: u32, bytes: &[u8]) -> Result<Token, LexNo>
     }
 }
 
+/// The token behind `n` others. A line has at most 64.
 fn counted(n: usize, token: Token) -> Result<Token, LexNo>
     ensures { result ≡ counted_of n token }
 {

@@ -102,6 +102,7 @@ pub fn unplug(ports: &mut Ports, thread: u8)
     ports[thread as usize] = None;
 }
 
+/// The word that a load at cycle `at` reads: the port's, or that of an absent port.
 fn read_entry(entry: &mut Option<Box<dyn Port>>, at: u64) -> u32
     ensures value { result ≡ word_seen (row_of latched word_at entry.old) at }
     ensures row { row_of latched word_at entry.new ≡ row_of latched word_at entry.old }
@@ -112,6 +113,7 @@ fn read_entry(entry: &mut Option<Box<dyn Port>>, at: u64) -> u32
     }
 }
 
+/// Gives a store's word to the port. Without one, the word is lost.
 fn write_entry(entry: &mut Option<Box<dyn Port>>, word: u32)
     ensures { row_of latched word_at entry.new ≡ row_with_word
         (row_of latched word_at entry.old) word }
@@ -121,6 +123,7 @@ fn write_entry(entry: &mut Option<Box<dyn Port>>, word: u32)
     }
 }
 
+/// Gives the port an input word for the cycles from `at` on.
 fn feed_entry(entry: &mut Option<Box<dyn Port>>, at: u64, word: u32) -> Result<(), AllocError>
     ensures row { let row = row_of latched word_at entry.old in
         row_of latched word_at entry.new ≡ (if is_ok result then fed row at word else row) }
@@ -132,6 +135,7 @@ fn feed_entry(entry: &mut Option<Box<dyn Port>>, at: u64, word: u32) -> Result<(
     }
 }
 
+/// Gives a port an input word for the cycles from `at` on.
 fn feed_box(port: &mut Box<dyn Port>, at: u64, word: u32) -> Result<(), AllocError>
     ensures ok { OnOk result (SameWords (fed_words (word_at port.old) at word) (word_at port.new)) }
     ensures err { OnErr result (SameWords (word_at port.old) (word_at port.new)) }
@@ -140,6 +144,7 @@ fn feed_box(port: &mut Box<dyn Port>, at: u64, word: u32) -> Result<(), AllocErr
     port.feed(at, word)
 }
 
+/// Lets the port drop the input words that no load from cycle `before` on can read.
 fn forget_entry(entry: &mut Option<Box<dyn Port>>, before: u64)
     ensures { Forgot before (row_of latched word_at entry.old) (row_of latched word_at entry.new) }
 {
@@ -148,6 +153,7 @@ fn forget_entry(entry: &mut Option<Box<dyn Port>>, before: u64)
     }
 }
 
+/// The word that the port's output holds.
 fn latch_entry(entry: &Option<Box<dyn Port>>) -> Option<u32>
     ensures { result ≡ latch_seen (row_of latched word_at entry.now) }
 {

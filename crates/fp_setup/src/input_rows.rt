@@ -33,6 +33,7 @@ fn two_integers(value: &Value) -> Option<(i64, i64)>
     Some((items[0].as_integer()?, items[1].as_integer()?))
 }
 
+/// Whether an input's cycle is greater than that of the input before it.
 fn comes_after(before: Option<u64>, at: u64) -> bool
     ensures { result ≡ is_after before at }
 {

@@ -26,6 +26,7 @@ use crate::vocabulary::Words;
 use std::alloc::Global;
 use toml::{Table, Value};
 
+/// Whether a table may have this key.
 fn is_known(keys: &[&str], key: &str) -> bool
     ensures { result ≡ list_any (λ known. bytes_eq known key.now) (map (λ k. k.now) keys.now) }
 {

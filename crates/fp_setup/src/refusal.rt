@@ -86,6 +86,7 @@ impl Place {
         Place::table(3, row)
     }
 
+    /// The place of a whole table.
     fn table(table: u8, row: u32) -> Place
         ensures { result ≡ record { table = table; row = row; key = 0; item = 0 } }
     {

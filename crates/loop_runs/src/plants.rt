@@ -45,6 +45,7 @@ pub(crate) fn step_plant<P: Plant>(plants: &mut Plants<P>, thread: u8, drive: u3
     step_entry(&mut plants[thread as usize], drive)
 }
 
+/// The word that a thread's plant drives, if it has one.
 fn word_in<P: Plant>(entry: &Option<P>) -> Option<u32>
     ensures { IsWord (response_of P.response entry.now) [] result }
 {
@@ -54,6 +55,7 @@ fn word_in<P: Plant>(entry: &Option<P>) -> Option<u32>
     }
 }
 
+/// Steps a thread's plant by the word that the thread drives. The answer is the plant's next word.
 fn step_entry<P: Plant>(entry: &mut Option<P>, drive: u32) -> Option<u32>
     ensures continues { Continues (response_of P.response entry.old)
         (response_of P.response entry.new) (drive ∷ []) }

@@ -58,6 +58,7 @@ pub const SHARED: u8 = 8;
 /// The nibble of a read only region.
 pub const READ_ONLY: u8 = 12;
 
+/// Whether a nibble names an owner: a thread, all threads, or none that may write.
 fn is_owner_nibble(nibble: u8) -> bool
     ensures { result ≡ is_owner_nibble nibble }
 {

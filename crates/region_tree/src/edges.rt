@@ -36,6 +36,7 @@ pub const JUMP_LAG: u64 = REDIRECT_LAG;
 impl Edges {
     ghost use Rattle.region_tree.specs.Edges.{next_edge, no_edges};
 
+    /// The edge to the next word, after `lag` cycles.
     fn onward(address: u32, lag: u64) -> Edges
         ensures { result ≡ next_edge address lag }
     {
@@ -47,6 +48,7 @@ impl Edges {
         }
     }
 
+    /// No edge: the path ends here, for this reason.
     fn ended(stop: Stop) -> Edges
         ensures { result ≡ no_edges stop }
     {
@@ -67,6 +69,7 @@ fn target(address: u32, off: i32) -> Option<u32>
     if target % 4 == 0 { Some(target) } else { None }
 }
 
+/// The edges of an instruction, by its kind.
 #[tactic(auto, unfolding(crate::specs::Edges::edges_from))]
 fn edges_from(address: u32, instruction: Ins) -> Edges
     ensures { result ≡ edges_from address instruction }

@@ -26,6 +26,7 @@ pub fn decode(w: u32) -> Ins
     by_opcode(w)
 }
 
+/// The instruction of a word, by its opcode: the table of major opcodes.
 #[inline(always)]
 fn by_opcode(word: u32) -> Ins
     ensures { result ≡ ins word }
@@ -47,6 +48,7 @@ fn by_opcode(word: u32) -> Ins
     }
 }
 
+/// Opcode 0x37.
 #[tactic(auto, unfolding(crate::specs::Table::lui_rows))]
 #[inline(always)]
 fn lui(word: u32) -> Ins
@@ -59,6 +61,7 @@ fn lui(word: u32) -> Ins
     }
 }
 
+/// Opcode 0x17.
 #[tactic(auto, unfolding(crate::specs::Table::auipc_rows))]
 #[inline(always)]
 fn auipc(word: u32) -> Ins
@@ -71,6 +74,7 @@ fn auipc(word: u32) -> Ins
     }
 }
 
+/// Opcode 0x6f.
 #[tactic(auto, unfolding(crate::specs::Table::jal_rows))]
 #[inline(always)]
 fn jal(word: u32) -> Ins
@@ -83,6 +87,7 @@ fn jal(word: u32) -> Ins
     }
 }
 
+/// Opcode 0x67.
 #[tactic(auto, unfolding(crate::specs::Table::jalr_rows))]
 #[inline(always)]
 fn jalr(word: u32) -> Ins
@@ -99,6 +104,7 @@ fn jalr(word: u32) -> Ins
     }
 }
 
+/// Opcode 0x63.
 #[tactic(auto, unfolding(crate::specs::Table::branch_rows))]
 #[inline(always)]
 fn conditional_branch(word: u32) -> Ins
@@ -122,6 +128,7 @@ fn conditional_branch(word: u32) -> Ins
     }
 }
 
+/// Opcode 0x03.
 #[tactic(auto, unfolding(crate::specs::Table::load_rows))]
 #[inline(always)]
 fn load(word: u32) -> Ins
@@ -144,6 +151,7 @@ fn load(word: u32) -> Ins
     }
 }
 
+/// Opcode 0x23.
 #[tactic(auto, unfolding(crate::specs::Table::store_rows))]
 #[inline(always)]
 fn store(word: u32) -> Ins
@@ -164,6 +172,7 @@ fn store(word: u32) -> Ins
     }
 }
 
+/// Opcode 0x13: with an immediate.
 #[tactic(auto, unfolding(crate::specs::Table::imm_rows))]
 #[inline(always)]
 fn op_imm(word: u32) -> Ins
@@ -189,6 +198,7 @@ fn op_imm(word: u32) -> Ins
     }
 }
 
+/// Opcode 0x13: a shift by an immediate.
 #[tactic(auto, unfolding(crate::specs::Table::imm_rows))]
 #[inline(always)]
 fn shift(word: u32) -> Ins
@@ -210,6 +220,7 @@ fn shift(word: u32) -> Ins
     }
 }
 
+/// Opcode 0x33: with two registers.
 #[tactic(auto, unfolding(crate::specs::Table::op_rows))]
 #[inline(always)]
 fn op(word: u32) -> Ins
@@ -240,6 +251,7 @@ fn op(word: u32) -> Ins
     }
 }
 
+/// Opcode 0x33 with a nonzero funct7: SUB, SRA, and the M extension.
 #[tactic(auto, unfolding(crate::specs::Table::op_rows))]
 #[inline(always)]
 fn other_op(word: u32) -> Ins
@@ -261,6 +273,7 @@ fn other_op(word: u32) -> Ins
     }
 }
 
+/// Opcode 0x33 with funct7 1: the M extension.
 #[tactic(auto, unfolding(crate::specs::Table::op_rows))]
 #[inline(always)]
 fn muldiv(word: u32) -> Ins
@@ -288,6 +301,7 @@ fn muldiv(word: u32) -> Ins
     }
 }
 
+/// Opcode 0x0f.
 #[tactic(auto, unfolding(crate::specs::Table::fence_rows))]
 #[inline(always)]
 fn fence(word: u32) -> Ins
@@ -300,6 +314,7 @@ fn fence(word: u32) -> Ins
     }
 }
 
+/// Opcode 0x73: ECALL, EBREAK, MRET and the CSR instructions.
 #[tactic(auto, unfolding(crate::specs::Table::system_rows))]
 #[inline(always)]
 fn system(word: u32) -> Ins
@@ -331,6 +346,7 @@ fn system(word: u32) -> Ins
     }
 }
 
+/// Opcode 0x0b: FlexPRET's timing instructions.
 #[tactic(auto, unfolding(crate::specs::Table::time_rows))]
 #[inline(always)]
 fn timing(word: u32) -> Ins

@@ -21,6 +21,7 @@ pub fn encode(i: &Ins) -> u32
     word_of(i)
 }
 
+/// The word of an instruction, by its format.
 #[tactic(auto, unfolding(crate::specs::Encoding::encoding_of))]
 fn word_of(i: &Ins) -> u32
     requires { InRange i.now }
@@ -59,6 +60,7 @@ fn word_of(i: &Ins) -> u32
     }
 }
 
+/// A word of format R.
 fn r_word(code: u32, rd: u8, funct3: u32, rs1: u8, rs2: u8, funct7: u32) -> u32
     requires code { code < 128 }
     requires rd { rd < 32 }
@@ -75,6 +77,7 @@ fn r_word(code: u32, rd: u8, funct3: u32, rs1: u8, rs2: u8, funct7: u32) -> u32
         + (funct7 << 25)
 }
 
+/// A word of format I.
 fn i_word(code: u32, rd: u8, funct3: u32, rs1: u8, imm: u32) -> u32
     requires code { code < 128 }
     requires rd { rd < 32 }
@@ -86,6 +89,7 @@ fn i_word(code: u32, rd: u8, funct3: u32, rs1: u8, imm: u32) -> u32
     code + (u32::from(rd) << 7) + (funct3 << 12) + (u32::from(rs1) << 15) + (imm << 20)
 }
 
+/// A word of format S.
 fn s_word(code: u32, funct3: u32, rs1: u8, rs2: u8, imm: u32) -> u32
     requires code { code < 128 }
     requires funct3 { funct3 < 8 }
@@ -97,6 +101,7 @@ fn s_word(code: u32, funct3: u32, rs1: u8, rs2: u8, imm: u32) -> u32
     r_word(code, (imm & 0x1f) as u8, funct3, rs1, rs2, imm >> 5)
 }
 
+/// A word of format B.
 fn b_word(code: u32, funct3: u32, rs1: u8, rs2: u8, off: i32) -> u32
     requires code { code < 128 }
     requires funct3 { funct3 < 8 }
@@ -111,6 +116,7 @@ fn b_word(code: u32, funct3: u32, rs1: u8, rs2: u8, off: i32) -> u32
     r_word(code, low as u8, funct3, rs1, rs2, high)
 }
 
+/// A word of format U.
 fn u_word(code: u32, rd: u8, imm: u32) -> u32
     requires code { code < 128 }
     requires rd { rd < 32 }
@@ -120,6 +126,7 @@ fn u_word(code: u32, rd: u8, imm: u32) -> u32
     code + (u32::from(rd) << 7) + (imm << 12)
 }
 
+/// A word of format J.
 fn j_word(code: u32, rd: u8, off: i32) -> u32
     requires code { code < 128 }
     requires rd { rd < 32 }
@@ -134,6 +141,7 @@ fn j_word(code: u32, rd: u8, off: i32) -> u32
     u_word(code, rd, imm)
 }
 
+/// The low 12 bits of an immediate.
 fn low_12(imm: i32) -> u32
     requires { IsSigned 12 imm }
     ensures bits { result ≡ low_bits 12 imm }
@@ -142,6 +150,7 @@ fn low_12(imm: i32) -> u32
     imm.cast_unsigned() & 0xfff
 }
 
+/// The funct3 of a branch.
 fn branch_funct3(op: BranchOp) -> u32
     ensures number { result ≡ branch_funct3 op }
     ensures small { result < 8 }
@@ -156,6 +165,7 @@ fn branch_funct3(op: BranchOp) -> u32
     }
 }
 
+/// The funct3 of a load.
 fn load_funct3(op: LoadOp) -> u32
     ensures number { result ≡ load_funct3 op }
     ensures small { result < 8 }
@@ -169,6 +179,7 @@ fn load_funct3(op: LoadOp) -> u32
     }
 }
 
+/// The funct3 of a store.
 fn store_funct3(op: StoreOp) -> u32
     ensures number { result ≡ store_funct3 op }
     ensures small { result < 8 }
@@ -180,6 +191,7 @@ fn store_funct3(op: StoreOp) -> u32
     }
 }
 
+/// The funct3 of an instruction with an immediate.
 fn imm_funct3(op: ImmOp) -> u32
     ensures number { result ≡ imm_funct3 op }
     ensures small { result < 8 }
@@ -194,6 +206,7 @@ fn imm_funct3(op: ImmOp) -> u32
     }
 }
 
+/// The funct3 of a shift by an immediate.
 fn shift_funct3(op: ShiftOp) -> u32
     ensures number { result ≡ shift_funct3 op }
     ensures small { result < 8 }
@@ -204,6 +217,7 @@ fn shift_funct3(op: ShiftOp) -> u32
     }
 }
 
+/// The funct7 of a shift by an immediate.
 fn shift_funct7(op: ShiftOp) -> u32
     ensures number { result ≡ shift_funct7 op }
     ensures small { result < 128 }
@@ -214,6 +228,7 @@ fn shift_funct7(op: ShiftOp) -> u32
     }
 }
 
+/// The funct3 of an instruction with two registers.
 fn alu_funct3(op: AluOp) -> u32
     ensures number { result ≡ alu_funct3 op }
     ensures small { result < 8 }
@@ -230,6 +245,7 @@ fn alu_funct3(op: AluOp) -> u32
     }
 }
 
+/// The funct7 of an instruction with two registers.
 fn alu_funct7(op: AluOp) -> u32
     ensures number { result ≡ alu_funct7 op }
     ensures small { result < 128 }
@@ -247,6 +263,7 @@ fn alu_funct7(op: AluOp) -> u32
     }
 }
 
+/// The funct3 of an instruction of the M extension.
 fn mul_funct3(op: MulOp) -> u32
     ensures number { result ≡ mul_funct3 op }
     ensures small { result < 8 }
@@ -263,6 +280,7 @@ fn mul_funct3(op: MulOp) -> u32
     }
 }
 
+/// The funct3 of a CSR instruction.
 fn csr_funct3(op: CsrKind) -> u32
     ensures number { result ≡ csr_funct3 op }
     ensures small { result < 8 }

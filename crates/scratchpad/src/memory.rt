@@ -35,6 +35,7 @@ fn byte_0(old: u32, lanes: Lanes) -> u32
     }
 }
 
+/// Byte 1 of the merged word: the store's where its mask has bit 1.
 fn byte_1(old: u32, lanes: Lanes) -> u32
     ensures { result ≡ merged_byte old lanes 1 }
 {
@@ -45,6 +46,7 @@ fn byte_1(old: u32, lanes: Lanes) -> u32
     }
 }
 
+/// Byte 2 of the merged word: the store's where its mask has bit 2.
 fn byte_2(old: u32, lanes: Lanes) -> u32
     ensures { result ≡ merged_byte old lanes 2 }
 {
@@ -55,6 +57,7 @@ fn byte_2(old: u32, lanes: Lanes) -> u32
     }
 }
 
+/// Byte 3 of the merged word: the store's where its mask has bit 3.
 fn byte_3(old: u32, lanes: Lanes) -> u32
     ensures { result ≡ merged_byte old lanes 3 }
 {

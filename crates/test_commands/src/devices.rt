@@ -74,6 +74,7 @@ impl CountPort {
         Ok(Box::new(alloc, CountPort { latch: 0, notes })?)
     }
 
+    /// Counts a call of the device.
     fn count(&self) {
         self.notes.count();
     }

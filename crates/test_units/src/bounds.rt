@@ -28,6 +28,7 @@ struct Question {
 }
 
 impl Question {
+    /// The question of a row: slots, thread, first and end address, in hexadecimal.
     fn of_words(words: &str) -> Option<Question> {
         let mut numbers = [0; 4];
         read_hexadecimals(words, &mut numbers)?;
@@ -62,6 +63,7 @@ pub fn push_answer(text: &mut RowText, alloc: Global, call: &str) {
     }
 }
 
+/// Whether a loop's addresses and limit may stand in a setup.
 fn is_loop(j: &LoopSetup) -> bool
     ensures { IsTrue result ↔ IsLoop j.now }
 {
@@ -108,12 +110,14 @@ fn image_of(text: &mut RowText, alloc: Global, words: &str) -> Option<Image> {
     read_image(alloc, &file, 65_536).ok()
 }
 
+/// Whether a section may be asked about.
 fn is_section(s: Section) -> bool
     ensures { IsTrue result ↔ IsSection s }
 {
     s.from < s.to && s.from % 4 == 0 && s.to % 4 == 0 && s.to <= 65_536
 }
 
+/// Writes the answer of a question.
 fn push_asked(text: &mut RowText, alloc: Global, question: Question, image: &Image, loops: &Loops) {
     let Question {
         slots,
@@ -135,6 +139,7 @@ fn push_asked(text: &mut RowText, alloc: Global, question: Question, image: &Ima
     }
 }
 
+/// Writes a bound in cycles, or why there is none.
 fn push_bound(text: &mut RowText, alloc: Global, tree: &LoopTree, slots: &SlotTable, thread: u8)
     requires thread { thread < 8 }
     requires slot { Contains (frame slots.now) thread }
@@ -146,6 +151,7 @@ fn push_bound(text: &mut RowText, alloc: Global, tree: &LoopTree, slots: &SlotTa
     }
 }
 
+/// Writes a refusal with its address.
 fn push_refused(text: &mut RowText, why: &str, address: u32) {
     write!(text, "refused {why} {address:08x}")
 }

@@ -60,6 +60,7 @@ fn push_out(text: &mut RowText, with: &str) {
     write!(text, "{put} {before:x} {flushed} {:x}", slow.taken.get())
 }
 
+/// How a row writes the outcome of a call.
 fn name_of(is_ok: bool) -> &'static str {
     if is_ok { "ok" } else { "failed" }
 }

@@ -51,6 +51,7 @@ fn push_image(text: &mut RowText, alloc: Global, image: &Image, bytes: &[u8]) {
     }
 }
 
+/// Writes each segment's address and bytes.
 pub fn push_segments(text: &mut RowText, image: &Image) {
     for segment in image.segments() {
         write!(text, "{:x}:", segment.address);
@@ -58,6 +59,7 @@ pub fn push_segments(text: &mut RowText, image: &Image) {
     }
 }
 
+/// Writes bytes in hexadecimal.
 fn push_bytes(text: &mut RowText, bytes: &[u8]) {
     for byte in bytes {
         write!(text, "{byte:02x}");

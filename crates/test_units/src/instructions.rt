@@ -49,6 +49,7 @@ fn push_moved(text: &mut RowText, ins: &Ins, address: u32, value: u32) {
     }
 }
 
+/// Writes what a load makes of a word.
 fn push_loaded(text: &mut RowText, op: LoadOp, address: u32, word: u32) {
     if address % u32::from(load_size(op)) != 0 {
         return text.push_str("misaligned");
@@ -56,6 +57,7 @@ fn push_loaded(text: &mut RowText, op: LoadOp, address: u32, word: u32) {
     write!(text, "{:x}", load_value(op, address, word))
 }
 
+/// Writes the lanes of a store.
 fn push_stored(text: &mut RowText, op: StoreOp, address: u32, value: u32) {
     if address % u32::from(store_size(op)) != 0 {
         return text.push_str("misaligned");

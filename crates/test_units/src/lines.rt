@@ -32,6 +32,7 @@ fn push_event(text: &mut RowText, with: &str, n: &[u64; 8]) {
     text.push_str(line(&event).as_str().trim_end())
 }
 
+/// The effect of a row: its name, with numbers from the fifth on.
 fn effect_of(name: &str, n: &[u64; 8]) -> Effect
     ensures { IsPrintable result }
 {
@@ -66,6 +67,7 @@ fn value_of(with: &str) -> u128 {
     last.parse().unwrap_or(0u128)
 }
 
+/// The refusal of a row: its name, with its code and place.
 fn refusal_of(name: &str, n: &[u64; 8], value: u128) -> Refusal {
     let code = low_byte(n[0]);
     match name {

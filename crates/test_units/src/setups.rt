@@ -22,6 +22,7 @@ pub fn push_answer(text: &mut RowText, rt: HostRuntime, call: &str) {
     }
 }
 
+/// Writes the setup that a row makes of its text.
 fn push_made(text: &mut RowText, rt: HostRuntime, kind: &str, with: &str) {
     let alloc = rt.alloc();
     match kind {
@@ -42,6 +43,7 @@ fn push_made(text: &mut RowText, rt: HostRuntime, kind: &str, with: &str) {
     }
 }
 
+/// Writes the setup of a file.
 fn push_file(text: &mut RowText, rt: HostRuntime, name: &str) {
     match RealFiles::new(rt).fetch(rt.alloc(), name, 262_144) {
         Ok(bytes) => push_setup(text, rt.alloc(), &bytes),
@@ -58,12 +60,14 @@ fn push_setup(text: &mut RowText, alloc: Global, bytes: &[u8]) {
     }
 }
 
+/// Writes a refusal of a setup, with its code and place.
 fn push_fault(text: &mut RowText, code: SetupNo, place: Place) {
     write!(text, "refused {} {code:?} ", code as u8);
     push_place(text, place);
     text.push_str("\n")
 }
 
+/// Writes the place of a refusal: its table, row, key and item.
 fn push_place(text: &mut RowText, place: Place) {
     let Place {
         table,
@@ -119,6 +123,7 @@ fn push_accepted(text: &mut RowText, setup: &Setup) {
     push_loops(text, setup.loops.as_slice())
 }
 
+/// Writes the registers that a setup gives.
 fn push_registers(text: &mut RowText, setup: &Setup) {
     let Setup {
         version,
@@ -137,6 +142,7 @@ fn push_registers(text: &mut RowText, setup: &Setup) {
     )
 }
 
+/// Writes what a setup says of a thread.
 fn push_thread(text: &mut RowText, number: u8, thread: &ThreadSetup) {
     let confined = if thread.confined { " confined" } else { "" };
     let permit = if thread.permit { " permit" } else { "" };
@@ -148,6 +154,7 @@ fn push_thread(text: &mut RowText, number: u8, thread: &ThreadSetup) {
     push_inputs(text, thread.inputs.as_slice())
 }
 
+/// Writes the input words of a thread, with their cycles.
 fn push_inputs(text: &mut RowText, inputs: &[Input]) {
     for input in inputs {
         write!(text, " {}:{}", input.at, input.word);
@@ -155,6 +162,7 @@ fn push_inputs(text: &mut RowText, inputs: &[Input]) {
     text.push_str("\n")
 }
 
+/// Writes the loops of a thread, with their limits.
 fn push_loops(text: &mut RowText, loops: &[LoopSetup]) {
     for bounds in loops {
         let LoopSetup { head, last, limit } = *bounds;
@@ -162,6 +170,7 @@ fn push_loops(text: &mut RowText, loops: &[LoopSetup]) {
     }
 }
 
+/// Writes the setup that is made of register words.
 #[tactic(auto, unfolding(crate::proofs::Opened::setup_words))]
 fn push_words(text: &mut RowText, alloc: Global) {
     let setup = Setup::of_words(
@@ -180,6 +189,7 @@ fn push_words(text: &mut RowText, alloc: Global) {
     }
 }
 
+/// Writes names, and whether they may stand in a setup.
 fn push_parts(text: &mut RowText, alloc: Global) {
     match Name::from_str(alloc, "drive.toml") {
         Ok(name) => write!(text, "{}, ", name.as_str()),

@@ -11,6 +11,7 @@ use std::rt::Files;
 /// The bytes of each file.
 const BYTES: [u8; 5] = *b"abcde";
 
+/// The error of an operation that fails on purpose.
 fn refused() -> io::Error {
     io::Error::from(io::ErrorKind::Other)
 }

@@ -56,6 +56,7 @@ pub fn push_steps(text: &mut RowText, unit: &str, steps: &str) {
     }
 }
 
+/// Does a step of a row on its unit, and writes what it answers.
 fn push_step(text: &mut RowText, units: &mut Units, unit: &str, step: &str) {
     let (call, with) = head(step);
     let n = numbers(with);
@@ -178,6 +179,7 @@ fn push_small(text: &mut RowText, small: &mut Spm)
     }
 }
 
+/// The bytes that a store writes.
 fn lanes(mask: u8, value: u32) -> Lanes {
     Lanes { mask, value }
 }

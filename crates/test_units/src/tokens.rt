@@ -17,6 +17,7 @@ pub fn push_answer(text: &mut RowText, alloc: Global, call: &str) {
     }
 }
 
+/// Writes the tokens of a line.
 fn push_tokens(text: &mut RowText, tokens: &[Token]) {
     for token in tokens {
         let Token {

@@ -73,6 +73,7 @@ fn push_ask(text: &mut RowText, ask: &Ask) {
     push_other_file(text, ask)
 }
 
+/// The command's name.
 fn name_of(ask: &Ask) -> &'static str {
     match ask {
         Ask::Run { .. } => "run",
