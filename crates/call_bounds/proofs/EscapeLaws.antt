@@ -9,7 +9,7 @@ use Rattle.region_tree.specs.Tree.{Tree, graph, word_at}
 use Rattle.region_tree.specs.declared.edges.Edges.{Edges}
 use Rattle.region_tree.specs.declared.section.Section.{Section}
 use Rattle.region_tree.proofs.LowestLaws.{by-edge, edge-by, lowest-same}
-use Rattle.call_bounds.specs.Build.{EscapeFrom, LeadsOut, LeavesAt}
+use Rattle.call_bounds.specs.Build.{EscapeFrom, LeadsOut, HasExitAt}
 use Rattle.call_bounds.specs.CallRefusals.{EscapeAt, IsListing}
 use Rattle.call_bounds.specs.Calls.{Calls, IsReached, Function, function}
 use Rattle.call_bounds.specs.Listing.{AreFunctionTrees, IsTreeOf, Listing}
@@ -21,12 +21,12 @@ use Rattle.call_bounds.proofs.Same.{leaves-same}
 -- by a word's two edges
 pub leaves-by : (t : Tree) (k : ℕ) → Reachable (graph t) (address t k) →
     let e = edges_of (word_at t (address t k)) (address t k) in
-    LeadsOut t.section e.next ⊎ LeadsOut t.section e.jump → LeavesAt (graph t) (address t k)
+    LeadsOut t.section e.next ⊎ LeadsOut t.section e.jump → HasExitAt (graph t) (address t k)
 leaves-by t k r h = elim h [ inl x ↦ found x.0 (inl x.1) x.2 | inr x ↦ found x.0 (inr x.1) x.2 ]
   where
     found : (v : ℕ) → let e = edges_of (word_at t (address t k)) (address t k) in
         (e.next ≡ Some v) ⊎ (e.jump ≡ Some v) → ((t.section.from ≤ v) × (v < t.section.to) → ⊥) →
-        LeavesAt (graph t) (address t k)
+        HasExitAt (graph t) (address t k)
     found v is out = let b = edge-by t k v is in record {
       by = b.0;
       reached = r;
@@ -36,7 +36,7 @@ leaves-by t k r h = elim h [ inl x ↦ found x.0 (inl x.1) x.2 | inr x ↦ found
           out (subst (λ v. t.section.from ≤ v) b.2 l.low, subst (λ v. v < t.section.to) b.2 l.high);
     }
 
-pub by-leaves : (t : Tree) (k : ℕ) → LeavesAt (graph t) (address t k) →
+pub by-leaves : (t : Tree) (k : ℕ) → HasExitAt (graph t) (address t k) →
     let e = edges_of (word_at t (address t k)) (address t k) in
     LeadsOut t.section e.next ⊎ LeadsOut t.section e.jump
 by-leaves t k h =
@@ -70,11 +70,11 @@ escape-all l trees c r ok are all =
         let y =
         tree-is (calls l) (function_at l h.0) (tree_at trees h.0) h.2.tree (are.each h.0
         lt) h.2.at in
-        let leaves : LeavesAt (function (calls l) (function_at l h.0)) a =
+        let leaves : HasExitAt (function (calls l) (function_at l h.0)) a =
         (leaves-same (calls l) (function_at l h.0) (function-section l ok h.0 lt)).there a
-        (subst (λ t. LeavesAt (graph t) a) y.1 h.2.leaves) in
-        let out : LeavesAt (function (calls l) (Some z.0)) a =
-        subst (λ p. LeavesAt (function (calls l) p) a) z.1 leaves in
+        (subst (λ t. HasExitAt (graph t) a) y.1 h.2.leaves) in
+        let out : HasExitAt (function (calls l) (Some z.0)) a =
+        subst (λ p. HasExitAt (function (calls l) p) a) z.1 leaves in
         record {
           routine = z.0;
           from = subst (λ p. IsReached (calls l) p) z.1 y.0;
@@ -87,10 +87,10 @@ escape-all l trees c r ok are all =
     back : (a : ℕ) → EscapeAt (calls l) a → Before (EscapeFrom trees) c a
     back a h =
         let z = reached-number l (Some h.routine) h.from in
-        let leaves : LeavesAt (function (calls l) (Some h.routine)) a =
+        let leaves : HasExitAt (function (calls l) (Some h.routine)) a =
         record { by = h.by; reached = h.word; edge = h.edge; out = h.out } in
-        let here : LeavesAt (function (calls l) (function_at l z.0)) a =
-        subst (λ p. LeavesAt (function (calls l) p) a) (sym z.2) leaves in (
+        let here : HasExitAt (function (calls l) (function_at l z.0)) a =
+        subst (λ p. HasExitAt (function (calls l) p) a) (sym z.2) leaves in (
           z.0,
           omega (arith, z.1),
           record {
@@ -122,7 +122,7 @@ edges-at t k a w e at is edges =
 
 pub leaves-first : (t : Tree) (k a w : ℕ) (s : Section) (e : Edges) (r : Bool) → a ≡ address t k →
     s ≡ t.section → w ≡ word_at t a → e ≡ edges_of w a → Reachable (graph t) a →
-    (r ≡ true) ↔ LeadsOut s e.next → r ≡ true → (r ≡ true) ↔ LeavesAt (graph t) (address t k)
+    (r ≡ true) ↔ LeadsOut s e.next → r ≡ true → (r ≡ true) ↔ HasExitAt (graph t) (address t k)
 leaves-first t k a w s e r at in_s is edges reached says passed =
     let same = edges-at t k a w e at is edges in (
       (λ h. leaves-by t k (subst (λ a. Reachable (graph t) a) at reached) (inl (subst (λ e.
@@ -133,7 +133,7 @@ leaves-first t k a w s e r at in_s is edges reached says passed =
 pub leaves-second : (t : Tree) (k a w : ℕ) (s : Section) (e : Edges) (r q : Bool) →
     a ≡ address t k → s ≡ t.section → w ≡ word_at t a → e ≡ edges_of w a → Reachable (graph t) a →
     (r ≡ true) ↔ LeadsOut s e.next → r ≡ false → (q ≡ true) ↔ LeadsOut s e.jump →
-    (q ≡ true) ↔ LeavesAt (graph t) (address t k)
+    (q ≡ true) ↔ HasExitAt (graph t) (address t k)
 leaves-second t k a w s e r q at in_s is edges reached first fails second = (
   (λ h. leaves-by t k (subst (λ a. Reachable (graph t) a) at reached) (inr (subst
       (λ e. LeadsOut t.section e.jump) same (subst (λ s. LeadsOut s e.jump) in_s (second.0 h))))),
@@ -158,13 +158,13 @@ pub escape-section : (trees : List (Option Tree)) → Nowhere (EscapeFrom trees 
 escape-section trees a h = absurd (let z = h.routine in omega arith)
 
 pub escape-some : (trees : List (Option Tree)) (k : ℕ) (t : Tree) (r : Option ℕ) → 0 < k →
-    tree_at trees k ≡ Some t → LowestOf (LeavesAt (graph t)) r → LowestOf (EscapeFrom trees k) r
+    tree_at trees k ≡ Some t → LowestOf (HasExitAt (graph t)) r → LowestOf (EscapeFrom trees k) r
 escape-some trees k t r some e =
-    lowest-same (LeavesAt (graph t)) (EscapeFrom trees k) r
+    lowest-same (HasExitAt (graph t)) (EscapeFrom trees k) r
     (λ a h. record { routine = some; tree = t; at = e; leaves = h })
     (λ a h. let z : Some h.tree ≡ Some t = sym h.at ∙ e in
     let same : h.tree ≡ t = cc in
-    subst (λ t. LeavesAt (graph t) a) same h.leaves)
+    subst (λ t. HasExitAt (graph t) a) same h.leaves)
 
 pub escape-none : (trees : List (Option Tree)) (k : ℕ) → tree_at trees k ≡ None →
     Nowhere (EscapeFrom trees k)

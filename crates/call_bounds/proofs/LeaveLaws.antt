@@ -22,7 +22,7 @@ use Rattle.call_bounds.specs.CallWalk.{Route}
 use Rattle.call_bounds.specs.Field.{moves}
 use Rattle.call_bounds.specs.Patched.{function_tree}
 use Rattle.call_bounds.specs.Runs.{Deep, Leaving, Nested, Run, Through}
-use Rattle.call_bounds.specs.Summaries.{Any, IsMost, LeavesAt, When}
+use Rattle.call_bounds.specs.Summaries.{Any, IsMost, ExitCostsAt, When}
 use Rattle.call_bounds.proofs.AnyLaws.{Alike}
 use Rattle.call_bounds.proofs.FunctionLaws.{Gone, RunAt, count, run-at}
 use Rattle.call_bounds.proofs.Functions.{call-edge, plain-edge}
@@ -125,7 +125,7 @@ pub leaving-alike : (x : Route) (at : List Matrix) (word_costs : CostsOn) → Go
     ((u : ℕ) → Reachable (function x.calls None) u →
     IsEdgeOf x (Through x) (callee x.calls u) (word_costs (index (function_tree x.calls None) u))) →
     Alike (Leaving x)
-    (Any (LeavesAt (function_tree x.calls None) x.positions word_costs at) (count (range
+    (Any (ExitCostsAt (function_tree x.calls None) x.positions word_costs at) (count (range
     x.calls None)))
 leaving-alike x at word_costs g are = record {
   covers = λ p c q h. covers p c q (to_leaves x h);
@@ -142,7 +142,7 @@ leaving-alike x at word_costs g are = record {
     is = g.section
 
     covers : (p c q : ℕ) → Leaves x p c q →
-        (e : ℕ) × Any (LeavesAt t x.positions word_costs at) (count (range x.calls None)) p e q
+        (e : ℕ) × Any (ExitCostsAt t x.positions word_costs at) (count (range x.calls None)) p e q
         × (min c ceiling ≤ e)
     covers p c q y = (
       r.cost + d.0,
@@ -197,12 +197,12 @@ leaving-alike x at word_costs g are = record {
             })
 
         out : Contains (edge_to e.next e.next_lag) y.by ⊎ Contains (edge_to e.jump 3) y.by →
-            LeavesAt t x.positions word_costs at k p (r.cost + d.0) q
+            ExitCostsAt t x.positions word_costs at k p (r.cost + d.0) q
         out (inl h) = inl (there e.next e.next_lag h)
         out (inr h) = inr (there e.jump 3 h)
 
     among : (p e q k : ℕ) → k < count (range x.calls None) →
-        LeavesAt t x.positions word_costs at k p e q →
+        ExitCostsAt t x.positions word_costs at k p e q →
         (c : ℕ) × Leaving x p c q × (min e ceiling ≡ min c ceiling)
     among p e q k lt h =
         elim h [ inl y ↦ from b.next b.next_lag known_next y | inr y ↦ from b.jump 3 known_jump y ]

@@ -6,7 +6,7 @@ use Rattle.region_tree.specs.Refusals.{IndirectAt, TimedAt, UnboundedAt}
 use Rattle.region_tree.specs.Nesting.{NestingAt}
 use Rattle.region_tree.specs.Tree.{IsSection, graph}
 use Rattle.region_tree.specs.declared.edges.Stop.{Stop}
-use Rattle.call_bounds.specs.Build.{LeavesAt}
+use Rattle.call_bounds.specs.Build.{HasExitAt}
 use Rattle.call_bounds.specs.Calls.{Calls, Function, function, range}
 use Rattle.call_bounds.specs.Patched.{function_tree}
 use Rattle.call_bounds.proofs.Agree.{Agree, back, graph_of}
@@ -58,8 +58,8 @@ unbounded {loops = loops} a u h = let z = back loops a h.reached in record {
 
 leaves : {from to : ℕ} {loops : List LoopSetup} {edges edges' : ℕ → List Edge}
     {stop stop' : ℕ → Stop} → Agree from to edges edges' stop stop' →
-    (u : ℕ) → LeavesAt (graph_of from to loops edges' stop') u →
-    LeavesAt (graph_of from to loops edges stop) u
+    (u : ℕ) → HasExitAt (graph_of from to loops edges' stop') u →
+    HasExitAt (graph_of from to loops edges stop) u
 leaves {loops = loops} a u h = let z = back loops a h.reached in record {
   by = h.by;
   reached = z.0;
@@ -87,5 +87,5 @@ pub unbounded-same : (x : Calls) (a : Function) → IsSection (range x a) → Is
 unbounded-same x a is =
     record { there = unbounded (agrees-back x a is); back = unbounded (agrees x a is) }
 
-pub leaves-same : (x : Calls) (a : Function) → IsSection (range x a) → IsSame LeavesAt x a
+pub leaves-same : (x : Calls) (a : Function) → IsSection (range x a) → IsSame HasExitAt x a
 leaves-same x a is = record { there = leaves (agrees-back x a is); back = leaves (agrees x a is) }

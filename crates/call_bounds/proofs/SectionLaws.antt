@@ -10,7 +10,7 @@ use Rattle.call_bounds.specs.Listing.{Listing, calls}
 use Rattle.call_bounds.specs.Patched.{function_tree}
 use Rattle.call_bounds.specs.Runs.{Deep, Leaving, Through}
 use Rattle.call_bounds.specs.Summaries.{Any, AreCallees, AreKnown, AreSummaries}
-use Rattle.call_bounds.specs.Summaries.{Ending, IsMost, KnowsCallees, LeavesAt, route}
+use Rattle.call_bounds.specs.Summaries.{Ending, IsMost, KnowsCallees, ExitCostsAt, route}
 use Rattle.call_bounds.specs.Tops.{EndsBy, IsMostBelow}
 use Rattle.call_bounds.proofs.AnyLaws.{Alike, alike-either}
 use Rattle.call_bounds.proofs.DoneLaws.{callee-reached}
@@ -71,7 +71,7 @@ section-most l s callees through deep most slot are known cs tree b =
         (λ k t lt here call. (knows k lt call t here).ends))
 
     leaves : Alike (Leaving (route l s))
-        (Any (LeavesAt t s word_costs b.at) (count (range (calls l) None)))
+        (Any (ExitCostsAt t s word_costs b.at) (count (range (calls l) None)))
     leaves =
         leaving-alike (route l s) b.at word_costs g
         (holds l s 0 (Through (route l s)) through callees g.section cs are.count

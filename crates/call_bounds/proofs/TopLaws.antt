@@ -13,7 +13,7 @@ use Rattle.bound_calc.specs.Tops.{IsTop}
 use Rattle.bound_calc.specs.declared.matrix.Matrix.{Matrix}
 use Rattle.bound_calc.proofs.PassLaws.{reach-more}
 use Rattle.bound_calc.proofs.TopLaws.{top-none}
-use Rattle.call_bounds.specs.Summaries.{Any, EndsAt, LeavesAt, When}
+use Rattle.call_bounds.specs.Summaries.{Any, EndsAt, ExitCostsAt, When}
 use Rattle.call_bounds.specs.Tops.{EndsBy, IsMostBelow}
 use Rattle.call_bounds.proofs.AnyLaws.{Alike}
 
@@ -117,18 +117,18 @@ most-more t s word_costs into n old new m b best top = record {
 pub ends-either : (t : Tree) (s : Positions) (word_costs into : CostsOn) (at : List Matrix)
     {n old new : ℕ} → IsTop (Any (λ k. EndsBy t s word_costs into k (matrix_at at k)) n) old new →
     IsTop (Either (Any (λ k. EndsAt (into k) (matrix_at at k)) n)
-    (Any (LeavesAt t s word_costs at) n)) old new
+    (Any (ExitCostsAt t s word_costs at) n)) old new
 ends-either t s word_costs into at {n} x = top-same there back x
   where
     there : (p c q : ℕ) → Any (λ k. EndsBy t s word_costs into k (matrix_at at k)) n p c q →
-        Either (Any (λ k. EndsAt (into k) (matrix_at at k)) n) (Any (LeavesAt t s word_costs
+        Either (Any (λ k. EndsAt (into k) (matrix_at at k)) n) (Any (ExitCostsAt t s word_costs
         at) n) p c q
     there p c q (k, lt, inl (inl h)) = inl (k, lt, h)
     there p c q (k, lt, inl (inr h)) = inr (k, lt, inl h)
     there p c q (k, lt, inr h) = inr (k, lt, inr h)
 
     back : (p c q : ℕ) → Either (Any (λ k. EndsAt (into k) (matrix_at at k)) n)
-        (Any (LeavesAt t s word_costs at) n) p c q →
+        (Any (ExitCostsAt t s word_costs at) n) p c q →
         Any (λ k. EndsBy t s word_costs into k (matrix_at at k)) n p c q
     back p c q (inl (k, lt, h)) = (k, lt, inl (inl h))
     back p c q (inr (k, lt, inl h)) = (k, lt, inl (inr h))

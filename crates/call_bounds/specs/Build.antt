@@ -106,7 +106,7 @@ pub record IsTried (l : Listing) (k : ℕ) (tree : Option Tree) (f : Causes) : T
   pub built : f ≡ no_causes → IsTreeOf (calls l) (function_at l k) tree
 
 -- a reachable word with an edge out of the section
-pub record LeavesAt (g : Graph) (u : ℕ) : Type 0 where
+pub record HasExitAt (g : Graph) (u : ℕ) : Type 0 where
   pub by : Edge
   pub reached : Reachable g u
   pub edge : Contains (g.edges u) by
@@ -121,7 +121,7 @@ pub record EscapeFrom (trees : List (Option Tree)) (k a : ℕ) : Type 0 where
   pub routine : 0 < k
   pub tree : Tree
   pub at : tree_at trees k ≡ Some tree
-  pub leaves : LeavesAt (graph tree) a
+  pub leaves : HasExitAt (graph tree) a
 
 -- the number of functions that are reachable by calls from one
 abbrev pub IsRankOf : ℕ → List Bool → ℕ → ℕ → Type 0

@@ -50,8 +50,8 @@ When true f = f
 When false f = λ p c q. ⊥
 
 -- the costs up to the word at an index and from there out of the section
-abbrev pub LeavesAt : Tree → Positions → CostsOn → List Matrix → ℕ → Costs
-LeavesAt t s word_costs at k =
+abbrev pub ExitCostsAt : Tree → Positions → CostsOn → List Matrix → ℕ → Costs
+ExitCostsAt t s word_costs at k =
     let e = edges_at t k in
     Either (When (leaves t e.next) (Then (In (matrix_at at k)) (move_costs s (word_costs k)
     e.next_lag)))

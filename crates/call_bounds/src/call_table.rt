@@ -45,7 +45,12 @@ fn unmarked(alloc: Global, count: usize) -> Result<Vec<bool>, AllocError>
 }
 
 /// Which functions the reachable words of a function call.
-fn row_of(alloc: Global, code: &Code, draft: &Draft, met: &[bool]) -> Result<Vec<bool>, AllocError>
+fn called_functions(
+    alloc: Global,
+    code: &Code,
+    draft: &Draft,
+    met: &[bool],
+) -> Result<Vec<bool>, AllocError>
     requires { IsMet draft.now met.now }
     ensures { IfOk result (λ row. IsRowTo code.now draft.now (length draft.now.words) row.items) }
 {
@@ -65,7 +70,7 @@ fn callees(alloc: Global, code: &Code, function: usize) -> Result<Vec<bool>, All
 {
     let draft = code.draft(alloc, function)?;
     let met = reachable(alloc, &draft)?;
-    row_of(alloc, code, &draft, met.as_slice())
+    called_functions(alloc, code, &draft, met.as_slice())
 }
 
 /// Which functions call which: a row for each function, with a mark for each function that it

@@ -3,7 +3,7 @@
 ghost use Rattle.std.specs.Prelude.{◌<◌, ◌↔◌, length, IfOk, IfErr, IsTrue, OnOk};
 ghost use Rattle.region_tree.specs.Search.{LowestOf, address};
 ghost use Rattle.region_tree.specs.Tree.{graph};
-ghost use Rattle.call_bounds.specs.Build.{AreReached, EscapeFrom, LeadsOut, LeavesAt};
+ghost use Rattle.call_bounds.specs.Build.{AreReached, EscapeFrom, LeadsOut, HasExitAt};
 ghost use Rattle.call_bounds.specs.CallRefused.{AreCallsAllowed, IsCallRefused};
 ghost use Rattle.call_bounds.specs.CallRefusals.{EscapeAt, IsCallable};
 ghost use Rattle.call_bounds.specs.Listing.{AreFunctionTrees, calls};
@@ -27,7 +27,7 @@ fn leads_out(section: Section, target: Option<u32>) -> bool
 /// Whether the word at an index is reachable and has an edge out of the tree's section.
 fn leaves(tree: &LoopTree, index: usize) -> bool
     requires { index < length tree.now.words }
-    ensures { IsTrue result ↔ LeavesAt (graph tree.now) (address tree.now index) }
+    ensures { IsTrue result ↔ HasExitAt (graph tree.now) (address tree.now index) }
 {
     let section = tree.section();
     let address = section.from + 4 * index as u32;
@@ -40,7 +40,7 @@ fn leaves(tree: &LoopTree, index: usize) -> bool
 
 /// The lowest address of a reachable word with an edge out of the tree's section.
 fn first_exit(tree: &LoopTree) -> Option<u32>
-    ensures { LowestOf (LeavesAt (graph tree.now)) result }
+    ensures { LowestOf (HasExitAt (graph tree.now)) result }
 {
     let section = tree.section();
     for index in 0..((section.to - section.from) / 4) as usize {

@@ -6,7 +6,7 @@ use Rattle.std.specs.List.{All, list_all}
 use Rattle.fp_setup.specs.Rules.{KeepsRules}
 use Rattle.fp_setup.specs.declared.thread_list.ThreadSetup.{ThreadSetup}
 use Rattle.trace_print.specs.Text.{text}
-use Rattle.core_model.specs.Cycles.{cycles_to_w}
+use Rattle.core_model.specs.Delays.{cycles_to_w}
 use Rattle.core_model.specs.World.{Start, events, is_quiet}
 use Rattle.core_model.specs.Phases.{phases, keeps_regions, is_never_soft}
 use Rattle.core_model.specs.declared.phase.Phase.{Phase}

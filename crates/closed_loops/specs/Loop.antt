@@ -12,7 +12,7 @@ use Rattle.core_model.specs.View.{Setting, View}
 use Rattle.core_model.specs.Solo.{Past, add_turn, solo_turn, oldest_first}
 use Rattle.core_model.specs.declared.phase.Phase.{Phase}
 use Rattle.core_model.specs.Phased.{phase_at, setting_in}
-use Rattle.core_model.specs.Cycles.{cycles_to_w}
+use Rattle.core_model.specs.Delays.{cycles_to_w}
 
 -- a store of a thread at its port
 pub record PortStore : Type 0 where

@@ -3,7 +3,7 @@
 use Rattle.std.specs.Prelude.{◌≡◌, ℕ, zero, suc, ◌+◌, ◌*◌, ◌-◌, ◌/◌, ◌<◌, ◌≤◌, nat_lt, true, List}
 use Rattle.std.specs.Prelude.{[], ◌∷◌, ◌++◌, filter, length, slice_index_or, Option, Some, None}
 use Rattle.core_model.specs.World.{Start, has_port, port_word, world}
-use Rattle.core_model.specs.Cycles.{cycles_to_m}
+use Rattle.core_model.specs.Delays.{cycles_to_m}
 use Rattle.closed_loops.specs.Loop.{Plant, PortStore, plant_behind_port}
 use Rattle.closed_loops.specs.Answered.{closed_start, inputs_of, stores_before}
 

@@ -15,17 +15,17 @@ use Rattle.command_line.specs.declared.form.Form.{Form as CodeForm}
 use Rattle.command_line.specs.declared.form.Form.TheVariants as code
 
 -- the command's row of the table
-abbrev pub row_of : Command → CommandRow
-row_of Run = run_row
-row_of Dump = dump_row
-row_of Asm = asm_row
-row_of Bound = bound_row
-row_of Selfrun = selfrun_row
-row_of Phases = phases_row
-row_of Solo = solo_row
-row_of Check = check_row
-row_of Elf = elf_row
-row_of Calls = calls_row
+abbrev pub command_row_of : Command → CommandRow
+command_row_of Run = run_row
+command_row_of Dump = dump_row
+command_row_of Asm = asm_row
+command_row_of Bound = bound_row
+command_row_of Selfrun = selfrun_row
+command_row_of Phases = phases_row
+command_row_of Solo = solo_row
+command_row_of Check = check_row
+command_row_of Elf = elf_row
+command_row_of Calls = calls_row
 
 -- the form that the code found
 abbrev pub form_value : CodeForm → Form

@@ -9,7 +9,7 @@ ghost use Rattle.command_line.specs.Commands.{cycles_in, checked_cycles_in};
 ghost use Rattle.command_line.specs.Commands.{ask, ask_of_words, commands, run_asks, dump_asks};
 ghost use Rattle.command_line.specs.Commands.{asm_asks, bound_asks, selfrun_asks, phases_asks};
 ghost use Rattle.command_line.specs.Commands.{solo_asks, check_asks, elf_asks, calls_asks};
-ghost use Rattle.command_line.specs.Code.{row_of};
+ghost use Rattle.command_line.specs.Code.{command_row_of};
 ghost use Rattle.command_line.specs.Rules.{is_fit};
 ghost use Rattle.command_line.specs.Causes.{IsCauseOf};
 ghost use Rattle.command_line.specs.declared.asked.WordsNo.TheVariants.{Usage};
@@ -32,7 +32,7 @@ const MOST_NUMBER: u64 = 4_294_967_295;
 
 /// The command of this name.
 fn command_named(name: &str) -> Option<Command>
-    ensures { option_map row_of result ≡ find (λ row. bytes_eq name.now row.name) commands }
+    ensures { option_map command_row_of result ≡ find (λ row. bytes_eq name.now row.name) commands }
 {
     match name {
         "run" => Some(Command::Run),
@@ -51,7 +51,7 @@ fn command_named(name: &str) -> Option<Command>
 
 /// The options of a command, in order.
 fn options_of(command: Command) -> &'static [&'static str]
-    ensures options { map (λ n. n.now) result.now ≡ (row_of command).options }
+    ensures options { map (λ n. n.now) result.now ≡ (command_row_of command).options }
     ensures fit { is_fit (map (λ n. n.now) result.now) ≡ true }
 {
     match command {
@@ -288,9 +288,9 @@ fn calls(alloc: Global, texts: &[&str]) -> Result<Ask, WordsNo>
 /// order.
 fn ask_by(alloc: Global, command: Command, texts: &[&str]) -> Result<Ask, WordsNo>
     ensures asked { IfOk result
-        (λ a. (row_of command).asks (map (λ t. t.now) texts.now) ≡ Some a) }
+        (λ a. (command_row_of command).asks (map (λ t. t.now) texts.now) ≡ Some a) }
     ensures refused { IfErr result
-        (IsCauseOf ((row_of command).asks (map (λ t. t.now) texts.now))) }
+        (IsCauseOf ((command_row_of command).asks (map (λ t. t.now) texts.now))) }
     ensures limits { IfOk result IsWithinLimits }
 {
     match command {
@@ -311,9 +311,9 @@ fn ask_by(alloc: Global, command: Command, texts: &[&str]) -> Result<Ask, WordsN
 #[tactic(auto, unfolding(crate::specs::Commands::ask_of_words))]
 fn ask_of(alloc: Global, name: &str, command: Command, words: &[String]) -> Result<Ask, WordsNo>
     ensures asked { IfOk result (λ a.
-        ask_of_words (row_of command) (map string_bytes words.now) ≡ Some a) }
+        ask_of_words (command_row_of command) (map string_bytes words.now) ≡ Some a) }
     ensures refused { IfErr result
-        (IsCauseOf (ask_of_words (row_of command) (map string_bytes words.now))) }
+        (IsCauseOf (ask_of_words (command_row_of command) (map string_bytes words.now))) }
     ensures limits { IfOk result IsWithinLimits }
 {
     let texts = texts_of(alloc, name, options_of(command), words)?;

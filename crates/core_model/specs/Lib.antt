@@ -1,4 +1,4 @@
-pub mod Cycles
+pub mod Delays
 pub mod Thread
 pub mod Traps
 pub mod Outcomes

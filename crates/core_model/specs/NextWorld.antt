@@ -1,7 +1,7 @@
 -- How each world follows from earlier ones.
 use Rattle.std.specs.Prelude.{◌≡◌, ℕ, suc, ◌-◌}
 use Rattle.core_model.specs.World.{Start, world, after_turn, sched_of}
-use Rattle.core_model.specs.Cycles.{cycles_to_e}
+use Rattle.core_model.specs.Delays.{cycles_to_e}
 
 -- the world after cycle c follows from the world before c; picking uses the slots, modes and sleep
 -- moments of the world before cycle c - 2

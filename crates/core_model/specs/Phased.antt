@@ -8,7 +8,7 @@ use Rattle.slot_scheduler.specs.ModeWord.{mode_of}
 use Rattle.core_model.specs.View.{Setting, View}
 use Rattle.core_model.specs.Solo.{Past, solo_turn, port_at, add_turn, oldest_first}
 use Rattle.core_model.specs.declared.phase.Phase.{Phase}
-use Rattle.core_model.specs.Cycles.{cycles_to_w}
+use Rattle.core_model.specs.Delays.{cycles_to_w}
 
 -- whether each position of the frame is thread i's: those with its number, while its mode is hard
 -- active, and else none

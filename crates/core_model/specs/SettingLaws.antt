@@ -9,7 +9,7 @@ use Rattle.core_model.specs.World.{Start, Registers, world}
 use Rattle.core_model.specs.declared.phase.Phase.{Phase}
 use Rattle.core_model.specs.Phases.{phases}
 use Rattle.core_model.specs.Phased.{phase_at, positions}
-use Rattle.core_model.specs.Cycles.{cycles_to_e, cycles_to_w}
+use Rattle.core_model.specs.Delays.{cycles_to_e, cycles_to_w}
 
 -- a setting has the slots and the modes of the registers
 pub record Matches (p : Phase) (r : Registers) : Type 0 where

@@ -21,7 +21,7 @@ use Rattle.core_model.specs.Issue.{issue}
 use Rattle.core_model.specs.Memory.{words_with_store}
 use Rattle.core_model.specs.Solo.{contents_by}
 use Rattle.fp_ports.specs.PluggedPorts.{absent_word}
-use Rattle.core_model.specs.Cycles.{cycles_to_w}
+use Rattle.core_model.specs.Delays.{cycles_to_w}
 
 -- the configuration registers, 0x7C0 to 0x7C3
 pub record Registers : Type 0 where

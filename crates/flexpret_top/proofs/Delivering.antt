@@ -14,7 +14,7 @@ use Rattle.flexpret_top.specs.declared.ready.Ready.{Ready}
 use Rattle.phase_log.specs.LoggedRuns.{HasLogged, LogStopped, StartsAs}
 use Rattle.phase_log.specs.Text.{phases_text}
 use Rattle.core_model.specs.Phases.{phases}
-use Rattle.flexpret_top.specs.Prepared.{Gone, LeavesPartOfRun, LeavesRun, Runs}
+use Rattle.flexpret_top.specs.Prepared.{Gone, HasLeftPartOfRun, HasLeftRun, Runs}
 
 abbrev pub Passes : Ready → List (Option Row) → Machine → List (Option Row) → Type 0
 Passes r first m rows =
@@ -52,14 +52,15 @@ gone-after s n first m later rows start st goes left =
 
 -- the ports after the run
 pub ports-gone : (r : Ready) (first rows : List (Option Row)) (m : Machine) →
-    Passes r first m rows → LeavesRun r first rows
+    Passes r first m rows → HasLeftRun r first rows
 ports-gone r first rows m passes s st starts =
     let gone = passes s st in ports_after s r.cycles r.cycles m first rows gone.refines gone.left
 
 pub ports-run : {A E : Type 0} → (r : Ready) (thread : ℕ) (first rows : List (Option Row))
     (m : Machine) (before after : Option (List ℕ)) (put : Result A E) → AreLeft first rows →
     OnOk put ((s : Start) → Refines s 0 r.cycles r.machine first →
-    HasRun s r.cycles r.cycles thread first m rows before after) → OnOk put (LeavesRun r first rows)
+    HasRun s r.cycles r.cycles thread first m rows before after) → OnOk put (HasLeftRun
+    r first rows)
 ports-run r thread first rows m before after (Ok x) words runs =
     λ s st starts. ports_after s r.cycles r.cycles m first rows (runs s st).refines words
 ports-run r thread first rows m before after (Err e) words runs = tt
@@ -115,7 +116,7 @@ phases-err r first rows m before after (Err e) logs =
 
 pub phases-left : {A E : Type 0} → (r : Ready) (first rows : List (Option Row))
     (m : Machine) (before after : Option (List ℕ)) (put : Result A E) → AreLeft first rows →
-    OnOk put (HasLoggedAll r first m rows before after) → OnOk put (LeavesRun r first rows)
+    OnOk put (HasLoggedAll r first m rows before after) → OnOk put (HasLeftRun r first rows)
 phases-left r first rows m before after (Ok x) words logs =
     λ s st starts. ports_after s r.cycles r.cycles m first rows (logs s starts st).refines words
 phases-left r first rows m before after (Err e) words logs = tt
@@ -124,7 +125,7 @@ phases-left r first rows m before after (Err e) words logs = tt
 pub trace-part : {A E : Type 0} → (r : Ready) (thread : ℕ) (first rows : List (Option Row))
     (m : Machine) (before after : Option (List ℕ)) (put : Result A E) →
     OnErr put ((s : Start) → Refines s 0 r.cycles r.machine first →
-    Stopped s r.cycles thread first m rows before after) → OnErr put (LeavesPartOfRun r first rows)
+    Stopped s r.cycles thread first m rows before after) → OnErr put (HasLeftPartOfRun r first rows)
 trace-part r thread first rows m before after (Ok x) run = tt
 trace-part r thread first rows m before after (Err e) run =
     λ s st starts. (let stopped = run s st in record {
@@ -136,7 +137,7 @@ trace-part r thread first rows m before after (Err e) run =
 pub phases-part : {A E : Type 0} → (r : Ready) (first rows : List (Option Row))
     (m : Machine) (before after : Option (List ℕ)) (put : Result A E) →
     OnErr put ((s : Start) → StartsAs s r.setup → Refines s 0 r.cycles r.machine first →
-    LogStopped s r.cycles first m rows before after) → OnErr put (LeavesPartOfRun r first rows)
+    LogStopped s r.cycles first m rows before after) → OnErr put (HasLeftPartOfRun r first rows)
 phases-part r first rows m before after (Ok x) logs = tt
 phases-part r first rows m before after (Err e) logs =
     λ s st starts. (let stopped = logs s starts st in record {
@@ -146,7 +147,7 @@ phases-part r first rows m before after (Err e) logs =
     })
 
 pub left-by : {A E : Type 0} → (put : Result A E) (r : Ready) (first rows : List (Option Row)) →
-    LeavesRun r first rows → OnOk put (LeavesRun r first rows)
+    HasLeftRun r first rows → OnOk put (HasLeftRun r first rows)
 left-by (Ok x) r first rows left = left
 left-by (Err e) r first rows left = tt
 

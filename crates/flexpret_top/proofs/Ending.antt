@@ -17,9 +17,9 @@ use Rattle.commands.specs.declared.status.Status.TheVariants.{Ok, Differs, Usage
 use Rattle.commands.specs.declared.status.Status.TheVariants.{Image, Source, Bound, Read}
 use Rattle.commands.specs.declared.status.Status.TheVariants.{Write, NoMemory, Routines}
 use Rattle.commands.specs.Answer.Answer.{Says}
-use Rattle.flexpret_top.specs.Command.{IsAnswerIn, Leaves}
-use Rattle.flexpret_top.specs.Command.{LeavesCutShort, LeavesUnrun, Said, Began, Answered}
-use Rattle.flexpret_top.specs.Prepared.{HasDelivered, LeavesPorts, LeavesPortsInPart, Prepares}
+use Rattle.flexpret_top.specs.Command.{IsAnswerIn, HasLeft}
+use Rattle.flexpret_top.specs.Command.{HasLeftCutShort, HasLeftUnrun, Said, Began, Answered}
+use Rattle.flexpret_top.specs.Prepared.{HasDelivered, HasLeftPorts, HasLeftPortsInPart, Prepares}
 use Rattle.commands.specs.Status.{IsStatus, number_of}
 
 -- after a failure of the sink a prefix of the answer was written
@@ -53,20 +53,20 @@ all-of (Some files) asked ports fed p before after prepares puts =
 -- the ports after a complete answer
 pub left-of : (contents : Option FileMap) (asked : Ask) (ports fed last : List (Option Row))
     (p : Prepared) → IfSome contents (λ files. Prepares asked files ports fed p) →
-    LeavesPorts p fed last → IfSome contents (λ files. Leaves asked files ports last)
+    HasLeftPorts p fed last → IfSome contents (λ files. HasLeft asked files ports last)
 left-of None asked ports fed last p prepares left = tt
 left-of (Some files) asked ports fed last p prepares left = prepares.leaves last left
 
 -- the ports after a failure of the sink
 pub part-of : (contents : Option FileMap) (asked : Ask)
     (ports fed last : List (Option Row)) (p : Prepared) →
-    IfSome contents (λ files. Prepares asked files ports fed p) → LeavesPortsInPart p fed last →
-    IfSome contents (λ files. LeavesCutShort (Some asked) files ports last)
+    IfSome contents (λ files. Prepares asked files ports fed p) → HasLeftPortsInPart p fed last →
+    IfSome contents (λ files. HasLeftCutShort (Some asked) files ports last)
 part-of None asked ports fed last p prepares left = tt
 part-of (Some files) asked ports fed last p prepares left = inr (prepares.leaves_part last left)
 
 pub same-cut-short : (contents : Option FileMap) (asked : Ask) (ports last : List (Option Row)) →
-    last ≡ ports → IfSome contents (λ files. LeavesCutShort (Some asked) files ports last)
+    last ≡ ports → IfSome contents (λ files. HasLeftCutShort (Some asked) files ports last)
 same-cut-short None asked ports last same = tt
 same-cut-short (Some files) asked ports last same = inl same
 
@@ -152,7 +152,7 @@ unasked None contents status before nine = refl
 unasked (Some asked) contents status before nine = inl (nine, refl)
 
 pub unrun-same : (o : Option Ask) (files : FileMap) (ports : List (Option Row)) →
-    LeavesUnrun o files ports ports
+    HasLeftUnrun o files ports ports
 unrun-same None files ports = refl
 unrun-same (Some (Run setup thread cycles)) files ports = inl refl
 unrun-same (Some (Dump setup cycles)) files ports = inl refl

@@ -14,7 +14,7 @@ use Rattle.visit_bounds.specs.SetupInSettings.{VisitsStayBoundedInSettings}
 use Rattle.commands.specs.Answer.Answer.{Says}
 use Rattle.commands.specs.declared.status.Status.TheVariants.{NoMemory, Usage}
 use Rattle.flexpret_top.specs.Command.{Answered, Began, IsAnswerTo, Said}
-use Rattle.flexpret_top.specs.Command.{LeavesBy, LeavesCutShort, LeavesUnrun}
+use Rattle.flexpret_top.specs.Command.{HasLeftBy, HasLeftCutShort, HasLeftUnrun}
 use Rattle.flexpret_top.specs.Outcome.{KnownOutcome, Outcome, State}
 use Rattle.flexpret_top.proofs.Ending.{is_status, unasked, unequal, unrun-same}
 use Rattle.flexpret_top.proofs.Headlines.{as-run-over, call-visits-over, imported-over}
@@ -48,9 +48,9 @@ pub known-of : {F K P : Type 0} (t : Theorems) (contents : Option FileMap) (aske
     after.write_faults →
     IfSome contents (λ files. (status ≡ 9) ⊎ Answered (IsAnswerTo asked files before.rows) status))
     →
-    (status ≡ 0 → IfSome contents (λ files. LeavesBy asked files before.rows after.rows)) →
-    (status ≡ 8 → IfSome contents (λ files. LeavesCutShort asked files before.rows after.rows)) →
-    (status ≡ 9 → IfSome contents (λ files. LeavesUnrun asked files before.rows after.rows)) →
+    (status ≡ 0 → IfSome contents (λ files. HasLeftBy asked files before.rows after.rows)) →
+    (status ≡ 8 → IfSome contents (λ files. HasLeftCutShort asked files before.rows after.rows)) →
+    (status ≡ 9 → IfSome contents (λ files. HasLeftUnrun asked files before.rows after.rows)) →
     IfSome contents (λ files. KnownOutcome files asked before after status)
 known-of t None asked before after status said prefix complete ports part unrun = tt
 known-of t (Some files) asked before after status said prefix complete ports part unrun = record {

@@ -3,7 +3,7 @@ use Rattle.std.proofs.Common.{inl, inr, refl, ◌≡◌, ℕ, ◌≤◌, List, l
 use Rattle.std.proofs.Common.{Some, None, Result, Ok, arith, ap, sym, subst, ◌∙◌}
 use Rattle.std.specs.Prelude.{IfSome}
 use Rattle.timer_unit.specs.Time.{most_cycles}
-use Rattle.flexpret_top.specs.Command.{IsUnrun, LeavesMachine}
+use Rattle.flexpret_top.specs.Command.{IsUnrun, HasLeftMachine}
 use Rattle.flexpret_top.specs.Command as command
 use Rattle.fp_io.specs.Content.{FileMap}
 use Rattle.fp_ports.specs.PluggedPorts.{Row, row_of, rows_of}
@@ -24,7 +24,7 @@ use Rattle.commands.specs.declared.program.Program.{Program}
 use Rattle.flexpret_top.specs.declared.ready.Ready.{Ready}
 use Rattle.flexpret_top.specs.declared.ready.Prepared.TheVariants as prepared
 use Rattle.commands.specs.Answer.{Answer, then_by, ends}
-use Rattle.flexpret_top.specs.Prepared.{IsReady, LeavesPartOfRun, LeavesRun, Prepares, Runs}
+use Rattle.flexpret_top.specs.Prepared.{IsReady, HasLeftPartOfRun, HasLeftRun, Prepares, Runs}
 use Rattle.commands.specs.Program.{program}
 use Rattle.flexpret_top.specs.Run.{start_of, trace_of, dump_of, phases_of}
 
@@ -58,8 +58,8 @@ ready-is (Some files) name before after p r is fed setup eight eight' few refine
 
 -- the ports after a run of a machine that was ready
 ready-leaves : (files : FileMap) (name : List ℕ) (before after last : List (Option Row))
-    (r : Ready) → IsReady files name before after r → LeavesRun r after last →
-    LeavesMachine files name r.cycles before last
+    (r : Ready) → IsReady files name before after r → HasLeftRun r after last →
+    HasLeftMachine files name r.cycles before last
 ready-leaves files name before after last r ready leaves =
     let s : Start = start_of ready.made before r.cycles in
     let After : List (Option Row) → Type 0 = λ ports. PortsAfter s r.cycles ports last in
@@ -71,8 +71,8 @@ ready-leaves files name before after last r ready leaves =
 
 -- the ports after a run that was stopped
 ready-leaves-part : (files : FileMap) (name : List ℕ) (before after last : List (Option Row))
-    (r : Ready) → IsReady files name before after r → LeavesPartOfRun r after last →
-    command.LeavesMachineInPart files name r.cycles before last
+    (r : Ready) → IsReady files name before after r → HasLeftPartOfRun r after last →
+    command.HasLeftMachineInPart files name r.cycles before last
 ready-leaves-part files name before after last r ready leaves =
     let s : Start = start_of ready.made before r.cycles in
     let some = leaves s ready.refines ready.starts in

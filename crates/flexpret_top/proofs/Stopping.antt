@@ -17,7 +17,7 @@ use Rattle.commands.specs.declared.stop.CommandStop.{CommandStop}
 use Rattle.commands.specs.declared.stop.CommandStop.TheVariants as why
 use Rattle.commands.specs.Answer.{differs_text, refusal_answer, status_of}
 use Rattle.commands.specs.Answer.Answer.{Says, Missing}
-use Rattle.flexpret_top.specs.Command.{IsAnswerIn, Leaves, Said, Began, Answered}
+use Rattle.flexpret_top.specs.Command.{IsAnswerIn, HasLeft, Said, Began, Answered}
 use Rattle.commands.specs.Status.{number_of}
 use Rattle.commands.specs.Stops.{IsStop, is_difference}
 use Rattle.flexpret_top.specs.Endings.{HasEnded}
@@ -172,7 +172,7 @@ stop-usage stop s b' a' before after ends usage =
 
 pub stop-leaves : (contents : Option FileMap) (asked : Ask) (ports last : List (Option Row))
     (stop : CommandStop) (s : Status) (b' a' : ℕ) (before after : Option (List ℕ)) →
-    HasEnded stop b' a' before after s → s ≡ Ok → IfSome contents (λ files. Leaves asked
+    HasEnded stop b' a' before after s → s ≡ Ok → IfSome contents (λ files. HasLeft asked
     files ports last)
 stop-leaves contents asked ports last stop s b' a' before after ends ok =
     absurd (no_number (number_of s) 0 (stop_number stop s b' a' before after ends)

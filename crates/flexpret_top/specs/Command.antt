@@ -52,27 +52,28 @@ IsAnswer words files ports x = IsAnswerTo (ask words) files ports x
 -- After so many cycles a port is there if it was handed in and isn't unplugged yet. It has the
 -- latch of the world, and shows the same words as when it was handed in, with the setup's inputs
 -- fed.
-pub record LeavesMachine (files : FileMap) (name : List ℕ) (n : ℕ)
+pub record HasLeftMachine (files : FileMap) (name : List ℕ) (n : ℕ)
     (before after : List (Option Row)) : Type 0 where
   pub made : Program
   pub is : program files name ≡ Ok made
   pub ports : PortsAfter (start_of made before n) n (fed_all made.setup before) after
 
 -- the ports after a command with status 0
-abbrev pub Leaves : Ask → FileMap → List (Option Row) → List (Option Row) → Type 0
-Leaves (Run setup thread cycles) files before after = LeavesMachine files setup cycles before after
-Leaves (Dump setup cycles) files before after = LeavesMachine files setup cycles before after
-Leaves (Asm source) files before after = after ≡ before
-Leaves (Bound setup thread section) files before after = after ≡ before
-Leaves (Selfrun number) files before after = after ≡ before
-Leaves (Phases setup cycles) files before after = LeavesMachine files setup cycles before after
-Leaves (Solo setup thread cycles) files before after = after ≡ before
-Leaves (Check setup thread cycles trace) files before after = after ≡ before
-Leaves (Elf file) files before after = after ≡ before
-Leaves (Calls setup thread section routines) files before after = after ≡ before
+abbrev pub HasLeft : Ask → FileMap → List (Option Row) → List (Option Row) → Type 0
+HasLeft (Run setup thread cycles) files before after = HasLeftMachine files setup cycles
+    before after
+HasLeft (Dump setup cycles) files before after = HasLeftMachine files setup cycles before after
+HasLeft (Asm source) files before after = after ≡ before
+HasLeft (Bound setup thread section) files before after = after ≡ before
+HasLeft (Selfrun number) files before after = after ≡ before
+HasLeft (Phases setup cycles) files before after = HasLeftMachine files setup cycles before after
+HasLeft (Solo setup thread cycles) files before after = after ≡ before
+HasLeft (Check setup thread cycles trace) files before after = after ≡ before
+HasLeft (Elf file) files before after = after ≡ before
+HasLeft (Calls setup thread section routines) files before after = after ≡ before
 
 -- The same if the sink failed within the text: the ports are those after some of the cycles.
-pub record LeavesMachineInPart (files : FileMap) (name : List ℕ) (n : ℕ)
+pub record HasLeftMachineInPart (files : FileMap) (name : List ℕ) (n : ℕ)
     (before after : List (Option Row)) : Type 0 where
   pub made : Program
   pub is : program files name ≡ Ok made
@@ -81,19 +82,20 @@ pub record LeavesMachineInPart (files : FileMap) (name : List ℕ) (n : ℕ)
   pub ports : PortsAfter (start_of made before n) cycles (fed_all made.setup before) after
 
 -- the ports after a text that was cut short
-abbrev pub LeavesInPart : Ask → FileMap → List (Option Row) → List (Option Row) → Type 0
-LeavesInPart (Run setup thread cycles) files before after =
-    LeavesMachineInPart files setup cycles before after
-LeavesInPart (Dump setup cycles) files before after = LeavesMachine files setup cycles before after
-LeavesInPart (Phases setup cycles) files before after =
-    LeavesMachineInPart files setup cycles before after
-LeavesInPart _ files before after = after ≡ before
+abbrev pub HasLeftInPart : Ask → FileMap → List (Option Row) → List (Option Row) → Type 0
+HasLeftInPart (Run setup thread cycles) files before after =
+    HasLeftMachineInPart files setup cycles before after
+HasLeftInPart (Dump setup cycles) files before after = HasLeftMachine files setup cycles
+    before after
+HasLeftInPart (Phases setup cycles) files before after =
+    HasLeftMachineInPart files setup cycles before after
+HasLeftInPart _ files before after = after ≡ before
 
 -- after status 8: a refusal's line leaves the ports as they were
-abbrev pub LeavesCutShort : Option Ask → FileMap → List (Option Row) → List (Option Row) → Type 0
-LeavesCutShort None files before after = after ≡ before
-LeavesCutShort (Some asked) files before after =
-    (after ≡ before) ⊎ LeavesInPart asked files before after
+abbrev pub HasLeftCutShort : Option Ask → FileMap → List (Option Row) → List (Option Row) → Type 0
+HasLeftCutShort None files before after = after ≡ before
+HasLeftCutShort (Some asked) files before after =
+    (after ≡ before) ⊎ HasLeftInPart asked files before after
 
 -- Some of the inputs of a setup were fed.
 pub record IsFedInPart (files : FileMap) (name : List ℕ)
@@ -107,20 +109,20 @@ abbrev pub IsUnrun : FileMap → List ℕ → List (Option Row) → List (Option
 IsUnrun files name before after = (after ≡ before) ⊎ IsFedInPart files name before after
 
 -- the ports if memory ran out, or a device refused an input
-abbrev pub LeavesFedInPart : Ask → FileMap → List (Option Row) → List (Option Row) → Type 0
-LeavesFedInPart (Run setup thread cycles) files before after = IsUnrun files setup before after
-LeavesFedInPart (Dump setup cycles) files before after = IsUnrun files setup before after
-LeavesFedInPart (Phases setup cycles) files before after = IsUnrun files setup before after
-LeavesFedInPart _ files before after = after ≡ before
+abbrev pub HasLeftFedInPart : Ask → FileMap → List (Option Row) → List (Option Row) → Type 0
+HasLeftFedInPart (Run setup thread cycles) files before after = IsUnrun files setup before after
+HasLeftFedInPart (Dump setup cycles) files before after = IsUnrun files setup before after
+HasLeftFedInPart (Phases setup cycles) files before after = IsUnrun files setup before after
+HasLeftFedInPart _ files before after = after ≡ before
 
 -- after status 9
-abbrev pub LeavesUnrun : Option Ask → FileMap → List (Option Row) → List (Option Row) → Type 0
-LeavesUnrun None files before after = after ≡ before
-LeavesUnrun (Some asked) files before after = LeavesFedInPart asked files before after
+abbrev pub HasLeftUnrun : Option Ask → FileMap → List (Option Row) → List (Option Row) → Type 0
+HasLeftUnrun None files before after = after ≡ before
+HasLeftUnrun (Some asked) files before after = HasLeftFedInPart asked files before after
 
-abbrev pub LeavesBy : Option Ask → FileMap → List (Option Row) → List (Option Row) → Type 0
-LeavesBy None files before after = after ≡ before
-LeavesBy (Some asked) files before after = Leaves asked files before after
+abbrev pub HasLeftBy : Option Ask → FileMap → List (Option Row) → List (Option Row) → Type 0
+HasLeftBy None files before after = after ≡ before
+HasLeftBy (Some asked) files before after = HasLeft asked files before after
 
 -- a command that uses no port
 abbrev pub UsesNoPort : Ask → Type 0

@@ -3,7 +3,7 @@ use Rattle.std.specs.Prelude.{ℕ, ◌+◌, ◌-◌, ◌≤◌, List, Option}
 use Rattle.std.specs.Io.KnownBytes.{Appends}
 use Rattle.call_bounds.specs.Calls.{Calls}
 use Rattle.call_bounds.specs.Listing.{calls}
-use Rattle.core_model.specs.Cycles.{cycles_to_e, cycles_to_w}
+use Rattle.core_model.specs.Delays.{cycles_to_e, cycles_to_w}
 use Rattle.core_model.specs.Phased.{phase_at, phased}
 use Rattle.core_model.specs.Solo.{solo}
 use Rattle.fp_setup.specs.Rules.{KeepsRules}

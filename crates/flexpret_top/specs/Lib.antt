@@ -16,7 +16,7 @@ pub use Rattle.call_bounds.specs.CallRefusals
 pub use Rattle.call_bounds.specs.CallWalk
 pub use Rattle.call_bounds.specs.Calls
 pub use Rattle.call_bounds.specs.Listing
-pub use Rattle.core_model.specs.Cycles
+pub use Rattle.core_model.specs.Delays
 pub use Rattle.core_model.specs.Solo
 pub use Rattle.core_model.specs.Thread
 pub use Rattle.core_model.specs.View as ThreadView

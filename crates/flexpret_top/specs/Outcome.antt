@@ -14,7 +14,7 @@ use Rattle.command_line.specs.declared.asked.Ask.{Ask}
 use Rattle.commands.specs.Answer.Answer.{Missing}
 use Rattle.commands.specs.Status.{IsStatus}
 use Rattle.flexpret_top.specs.Command.{Answered, Began, IsAnswerTo, Said}
-use Rattle.flexpret_top.specs.Command.{LeavesBy, LeavesCutShort, LeavesUnrun}
+use Rattle.flexpret_top.specs.Command.{HasLeftBy, HasLeftCutShort, HasLeftUnrun}
 use Rattle.flexpret_top.specs.Command.{OnlyReadsBy, UsesNoPortBy}
 use Rattle.flexpret_top.specs.Headline.{BoundsCallVisits, BoundsVisits}
 use Rattle.flexpret_top.specs.Headline.{WritesAsRun, WritesImage, WritesIsolated}
@@ -80,11 +80,11 @@ pub record KnownOutcome {F K P : Type 0} (files : FileMap) (asked : Option Ask)
   -- `elf` wrote a file that reads as the executable's image.
   pub imported : status ≡ 0 → WritesImage asked files before.written after.written
   -- The ports are those after the command's cycles.
-  pub ports : status ≡ 0 → LeavesBy asked files before.rows after.rows
+  pub ports : status ≡ 0 → HasLeftBy asked files before.rows after.rows
   -- If the sink failed, they are those after some of these cycles.
-  pub part : status ≡ 8 → LeavesCutShort asked files before.rows after.rows
+  pub part : status ≡ 8 → HasLeftCutShort asked files before.rows after.rows
   -- If memory ran out, some of the setup's inputs were fed, and no cycle was run.
-  pub unrun : status ≡ 9 → LeavesUnrun asked files before.rows after.rows
+  pub unrun : status ≡ 9 → HasLeftUnrun asked files before.rows after.rows
 
 -- What a command line does, with any files, sink and eight ports, up to its status.
 pub record Outcome {F K P : Type 0} (looks_first : Type 0) (asked : Option Ask)

@@ -22,7 +22,7 @@ use Rattle.flexpret_top.specs.declared.ready.Prepared.TheVariants.{Same, Image, 
 use Rattle.selfrun.specs.Text.{tallies_text}
 use Rattle.flexpret_top.specs.SoloAndCheck.{same_text, told_alone}
 use Rattle.commands.specs.Answer.Answer.{Says}
-use Rattle.flexpret_top.specs.Command.{IsAnswerOf, Leaves, LeavesInPart}
+use Rattle.flexpret_top.specs.Command.{IsAnswerOf, HasLeft, HasLeftInPart}
 use Rattle.commands.specs.Program.{program}
 use Rattle.flexpret_top.specs.Run.{start_of}
 use Rattle.std.specs.Prelude.{Ok}
@@ -63,39 +63,39 @@ IsThread (Trace r thread) = thread < 8
 IsThread _ = Unit {0}
 
 -- the ports after a run of a machine
-abbrev pub LeavesRun : Ready → List (Option Row) → List (Option Row) → Type 0
-LeavesRun r before after =
+abbrev pub HasLeftRun : Ready → List (Option Row) → List (Option Row) → Type 0
+HasLeftRun r before after =
     (s : Start) → Refines s 0 r.cycles r.machine before → StartsAs s r.setup →
     PortsAfter s r.cycles before after
 
 -- the ports after the text was written
-abbrev pub LeavesPorts : Prepared → List (Option Row) → List (Option Row) → Type 0
-LeavesPorts (Trace r thread) before after = LeavesRun r before after
-LeavesPorts (Dump r) before after = LeavesRun r before after
-LeavesPorts (Phases r) before after = LeavesRun r before after
-LeavesPorts (Solo alone) before after = after ≡ before
-LeavesPorts Same before after = after ≡ before
-LeavesPorts (Image bytes) before after = after ≡ before
-LeavesPorts (Bound cycles) before after = after ≡ before
-LeavesPorts (Selfrun run) before after = after ≡ before
+abbrev pub HasLeftPorts : Prepared → List (Option Row) → List (Option Row) → Type 0
+HasLeftPorts (Trace r thread) before after = HasLeftRun r before after
+HasLeftPorts (Dump r) before after = HasLeftRun r before after
+HasLeftPorts (Phases r) before after = HasLeftRun r before after
+HasLeftPorts (Solo alone) before after = after ≡ before
+HasLeftPorts Same before after = after ≡ before
+HasLeftPorts (Image bytes) before after = after ≡ before
+HasLeftPorts (Bound cycles) before after = after ≡ before
+HasLeftPorts (Selfrun run) before after = after ≡ before
 
 -- the ports after a run of a machine that the sink cut short: those after some of its cycles
-pub record LeavesSome (s : Start) (n : ℕ) (before after : List (Option Row)) : Type 0 where
+pub record HasLeftSome (s : Start) (n : ℕ) (before after : List (Option Row)) : Type 0 where
   pub cycles : ℕ
   pub within : cycles ≤ n
   pub ports : PortsAfter s cycles before after
 
-abbrev pub LeavesPartOfRun : Ready → List (Option Row) → List (Option Row) → Type 0
-LeavesPartOfRun r before after =
+abbrev pub HasLeftPartOfRun : Ready → List (Option Row) → List (Option Row) → Type 0
+HasLeftPartOfRun r before after =
     (s : Start) → Refines s 0 r.cycles r.machine before → StartsAs s r.setup →
-    LeavesSome s r.cycles before after
+    HasLeftSome s r.cycles before after
 
 -- the ports if the sink failed
-abbrev pub LeavesPortsInPart : Prepared → List (Option Row) → List (Option Row) → Type 0
-LeavesPortsInPart (Trace r thread) before after = LeavesPartOfRun r before after
-LeavesPortsInPart (Dump r) before after = LeavesRun r before after
-LeavesPortsInPart (Phases r) before after = LeavesPartOfRun r before after
-LeavesPortsInPart _ before after = after ≡ before
+abbrev pub HasLeftPortsInPart : Prepared → List (Option Row) → List (Option Row) → Type 0
+HasLeftPortsInPart (Trace r thread) before after = HasLeftPartOfRun r before after
+HasLeftPortsInPart (Dump r) before after = HasLeftRun r before after
+HasLeftPortsInPart (Phases r) before after = HasLeftPartOfRun r before after
+HasLeftPortsInPart _ before after = after ≡ before
 
 -- it uses no port
 abbrev pub IsWithoutPort : Prepared → Type 0
@@ -117,10 +117,10 @@ pub record Prepares (asked : Ask) (files : FileMap) (before after : List (Option
   pub written : List ℕ
   pub delivers : HasDelivered p after written
   pub is : IsAnswerOf asked files before (Says 0 written)
-  pub leaves : (last : List (Option Row)) → LeavesPorts p after last →
-      Leaves asked files before last
-  pub leaves_part : (last : List (Option Row)) → LeavesPortsInPart p after last →
-      LeavesInPart asked files before last
+  pub leaves : (last : List (Option Row)) → HasLeftPorts p after last →
+      HasLeft asked files before last
+  pub leaves_part : (last : List (Option Row)) → HasLeftPortsInPart p after last →
+      HasLeftInPart asked files before last
 
 -- the same where the files' contents are known
 abbrev pub IsPrepared : Ask → Option FileMap → List (Option Row) → List (Option Row) →

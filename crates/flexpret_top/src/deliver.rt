@@ -10,8 +10,8 @@ ghost use Rattle.flexpret_top.specs.Prepared.{
   Gone,
   IsWithoutPort,
   IsThread,
-  LeavesPorts,
-  LeavesPortsInPart,
+  HasLeftPorts,
+  HasLeftPortsInPart,
   OnlyReadsFor,
   WritesAll,
   WritesPart,
@@ -55,9 +55,9 @@ fn put_trace<K: Sink>(
         (rows_of latched word_at ports.old.items) (K.taken out.old) (K.taken out.new)) }
     ensures failed { OnErr result (HasRisen (K.faults out.old) (K.faults out.new)) }
     ensures counted { K.faults out.old ≤ K.faults out.new }
-    ensures left { OnOk result (LeavesPorts (Prepared.Trace ready thread)
+    ensures left { OnOk result (HasLeftPorts (Prepared.Trace ready thread)
         (rows_of latched word_at ports.old.items) (rows_of latched word_at ports.new.items)) }
-    ensures part { OnErr result (LeavesPortsInPart (Prepared.Trace ready thread)
+    ensures part { OnErr result (HasLeftPortsInPart (Prepared.Trace ready thread)
         (rows_of latched word_at ports.old.items) (rows_of latched word_at ports.new.items)) }
     ensures eight { vec_len ports.new ≡ 8 }
 {
@@ -74,7 +74,7 @@ fn put_dump<K: Sink>(ready: Ready, ports: &mut Ports, out: &mut K) -> Result<(),
         (rows_of latched word_at ports.old.items) (K.taken out.old) (K.taken out.new)) }
     ensures failed { OnErr result (HasRisen (K.faults out.old) (K.faults out.new)) }
     ensures counted { K.faults out.old ≤ K.faults out.new }
-    ensures left { LeavesPorts (Prepared.Dump ready)
+    ensures left { HasLeftPorts (Prepared.Dump ready)
         (rows_of latched word_at ports.old.items) (rows_of latched word_at ports.new.items) }
     ensures eight { vec_len ports.new ≡ 8 }
 {
@@ -92,9 +92,9 @@ fn put_phases<K: Sink>(ready: Ready, ports: &mut Ports, out: &mut K) -> Result<(
         (rows_of latched word_at ports.old.items) (K.taken out.old) (K.taken out.new)) }
     ensures failed { OnErr result (HasRisen (K.faults out.old) (K.faults out.new)) }
     ensures counted { K.faults out.old ≤ K.faults out.new }
-    ensures left { OnOk result (LeavesPorts (Prepared.Phases ready)
+    ensures left { OnOk result (HasLeftPorts (Prepared.Phases ready)
         (rows_of latched word_at ports.old.items) (rows_of latched word_at ports.new.items)) }
-    ensures part { OnErr result (LeavesPortsInPart (Prepared.Phases ready)
+    ensures part { OnErr result (HasLeftPortsInPart (Prepared.Phases ready)
         (rows_of latched word_at ports.old.items) (rows_of latched word_at ports.new.items)) }
     ensures eight { vec_len ports.new ≡ 8 }
 {
@@ -112,9 +112,9 @@ pub fn deliver<K: Sink>(prepared: Prepared, ports: &mut Ports, out: &mut K) -> R
         (rows_of latched word_at ports.old.items) (K.taken out.old) (K.taken out.new)) }
     ensures failed { OnErr result (HasRisen (K.faults out.old) (K.faults out.new)) }
     ensures counted { K.faults out.old ≤ K.faults out.new }
-    ensures left { OnOk result (LeavesPorts prepared
+    ensures left { OnOk result (HasLeftPorts prepared
         (rows_of latched word_at ports.old.items) (rows_of latched word_at ports.new.items)) }
-    ensures part { OnErr result (LeavesPortsInPart prepared
+    ensures part { OnErr result (HasLeftPortsInPart prepared
         (rows_of latched word_at ports.old.items) (rows_of latched word_at ports.new.items)) }
     ensures apart { IsWithoutPort prepared → ports.new ≡ ports.old }
     ensures reads { OnlyReadsFor prepared →

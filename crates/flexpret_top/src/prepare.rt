@@ -7,7 +7,7 @@ ghost use Rattle.command_line.specs.Limits.{IsWithinLimits};
 ghost use Rattle.command_line.specs.declared.asked.Ask.{Ask};
 ghost use Rattle.flexpret_top.specs.declared.ready.Prepared.{Prepared};
 ghost use Rattle.flexpret_top.specs.Command.{IsAnswerIn, UsesNoPort};
-ghost use Rattle.flexpret_top.specs.Command.{LeavesFedInPart, OnlyReads};
+ghost use Rattle.flexpret_top.specs.Command.{HasLeftFedInPart, OnlyReads};
 ghost use Rattle.flexpret_top.specs.Requests.{IsAsked, LacksFirst};
 ghost use Rattle.flexpret_top.specs.Prepared.{IsWithoutPort, IsPrepared, IsThread, OnlyReadsFor};
 ghost use Rattle.commands.specs.Stops.{IsStop, is_difference};
@@ -49,7 +49,7 @@ pub fn prepare<F: Files>(
         stop ≢ NoMemory → is_difference stop ≡ false → ports.new ≡ ports.old) }
     ensures others { IfErr result (λ stop.
         stop ≢ NoMemory → OnlyReads ask.now ⊎ (ports.new ≡ ports.old)) }
-    ensures part { OnErr result (IfSome (F.contents files.old) (λ contents. LeavesFedInPart
+    ensures part { OnErr result (IfSome (F.contents files.old) (λ contents. HasLeftFedInPart
         ask.now contents
         (rows_of latched word_at ports.old.items) (rows_of latched word_at ports.new.items))) }
     ensures reads { OnlyReads ask.now →

@@ -10,9 +10,9 @@ use Rattle.fp_asm.specs.Statements.{Statement, aligned_to, statement_check}
 use Rattle.fp_asm.specs.Statements.{checked_as, location_after, location_as, size_of}
 use Rattle.fp_asm.specs.Words.{is_within}
 use Rattle.fp_asm.specs.Faults.{holds}
-use Rattle.fp_asm.specs.declared.table.Makes.{Makes}
-use Rattle.fp_asm.specs.declared.table.Makes.TheVariants.{Plain, Branch, Jal, Li}
-use Rattle.fp_asm.specs.declared.table.Makes.TheVariants.{La, Words, Org, Space}
+use Rattle.fp_asm.specs.declared.mnemonics.Makes.{Makes}
+use Rattle.fp_asm.specs.declared.mnemonics.Makes.TheVariants.{Plain, Branch, Jal, Li}
+use Rattle.fp_asm.specs.declared.mnemonics.Makes.TheVariants.{La, Words, Org, Space}
 use Rattle.fp_asm.specs.declared.refusal.AsmNo.{AsmNo}
 use Rattle.fp_asm.specs.declared.refusal.AsmNo.TheVariants as no
 

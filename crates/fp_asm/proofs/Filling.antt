@@ -8,7 +8,7 @@ use Rattle.std.proofs.lemmas.List.{map-append}
 use Rattle.fp_asm.specs.Operands.{Target, Operands, all_filled, target_in, all_targets}
 use Rattle.fp_asm.specs.AbstractPieces.{abstract_piece, abstract_operand}
 use Rattle.fp_asm.specs.AbstractOperands.{abstract_target}
-use Rattle.fp_asm.specs.declared.table.Slot.{Slot}
+use Rattle.fp_asm.specs.declared.mnemonics.Slot.{Slot}
 use Rattle.fp_asm.specs.declared.pieces.Piece.TheVariants as piece
 use Rattle.fp_asm.specs.declared.operands.Target.TheVariants as target
 

@@ -10,7 +10,7 @@ use Rattle.std.proofs.lemmas.Bool.Decides.{nat_tests}
 use Rattle.fp_asm.specs.Mnemonics.{Mnemonic, mnemonics, mnemonic, row_named}
 use Rattle.fp_asm.specs.Names.{value_named, registers, register_number}
 use Rattle.fp_asm.specs.AbstractPieces.{abstract_mnemonic, abstract_name}
-use Rattle.fp_asm.specs.declared.table.Row.{Row}
+use Rattle.fp_asm.specs.declared.mnemonics.Row.{Row}
 
 found_row : (rows : List Row) (text : List ℕ) → row_named (map abstract_mnemonic rows) text
     ≡ option_map abstract_mnemonic (find (λ row. bytes_eq row.name.now text) rows)

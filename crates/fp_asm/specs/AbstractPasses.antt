@@ -2,8 +2,8 @@
 use Rattle.fp_asm.specs.First.{Placed}
 use Rattle.fp_asm.specs.Second.{Written}
 use Rattle.fp_asm.specs.AbstractPieces.{abstract_labels}
-use Rattle.fp_asm.specs.declared.first.First.{First}
-use Rattle.fp_asm.specs.declared.second.Second.{Second}
+use Rattle.fp_asm.specs.declared.first_pass.First.{First}
+use Rattle.fp_asm.specs.declared.second_pass.Second.{Second}
 
 -- the state of the first pass, as plain data
 abbrev pub abstract_first : First → Placed

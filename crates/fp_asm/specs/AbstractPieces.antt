@@ -5,7 +5,7 @@ use Rattle.fp_asm.specs.Pieces.{Piece, name, number, comma, colon, opening, clos
 use Rattle.std.specs.BTreeMap.{BTreeMap}
 use Rattle.fp_asm.specs.Mnemonics.{Mnemonic}
 use Rattle.fp_asm.specs.First.{Labels}
-use Rattle.fp_asm.specs.declared.table.Row.{Row}
+use Rattle.fp_asm.specs.declared.mnemonics.Row.{Row}
 use Rattle.fp_asm.specs.declared.pieces.Piece.TheVariants as piece
 
 -- a row of the table, as plain data

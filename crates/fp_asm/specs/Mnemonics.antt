@@ -7,12 +7,13 @@
 use Rattle.std.specs.Prelude.{List, [], ◌∷◌, Option, codes, find}
 use Rattle.std.specs.Str.{bytes_eq}
 use Rattle.fp_asm.specs.Pieces.{Text}
-use Rattle.fp_asm.specs.declared.table.Slot.{Slot}
-use Rattle.fp_asm.specs.declared.table.Slot.TheVariants.{Rd, Rs1, Rs2, Csr, Number, Memory, Value}
-use Rattle.fp_asm.specs.declared.table.Makes.{Makes}
-use Rattle.fp_asm.specs.declared.table.Makes.TheVariants.{Plain, Branch, Jal, Li}
-use Rattle.fp_asm.specs.declared.table.Makes.TheVariants.{La, Words, Org, Space}
-use Rattle.fp_asm.specs.declared.table.Plain.TheVariants as plain
+use Rattle.fp_asm.specs.declared.mnemonics.Slot.{Slot}
+use Rattle.fp_asm.specs.declared.mnemonics.Slot.TheVariants.{Rd, Rs1, Rs2, Csr, Number, Memory}
+use Rattle.fp_asm.specs.declared.mnemonics.Slot.TheVariants.{Value}
+use Rattle.fp_asm.specs.declared.mnemonics.Makes.{Makes}
+use Rattle.fp_asm.specs.declared.mnemonics.Makes.TheVariants.{Plain, Branch, Jal, Li}
+use Rattle.fp_asm.specs.declared.mnemonics.Makes.TheVariants.{La, Words, Org, Space}
+use Rattle.fp_asm.specs.declared.mnemonics.Plain.TheVariants as plain
 use Rattle.rv_decode.specs.declared.instruction.BranchOp.TheVariants.{Beq, Bne, Blt}
 use Rattle.rv_decode.specs.declared.instruction.BranchOp.TheVariants.{Bge, Bltu, Bgeu}
 use Rattle.rv_decode.specs.declared.instruction.LoadOp.TheVariants.{Lb, Lh, Lw, Lbu, Lhu}

@@ -3,8 +3,9 @@ use Rattle.std.specs.Prelude.{ℕ, ◌<◌, ℤ, pos, neg_ℤ, List, [], ◌∷�
 use Rattle.std.specs.Prelude.{Some, None, option_map, option_and_then}
 use Rattle.fp_asm.specs.Pieces.{Text, Piece, name, number, opening, closing, plus, minus}
 use Rattle.fp_asm.specs.Names.{register_number, csr}
-use Rattle.fp_asm.specs.declared.table.Slot.{Slot}
-use Rattle.fp_asm.specs.declared.table.Slot.TheVariants.{Rd, Rs1, Rs2, Csr, Number, Memory, Value}
+use Rattle.fp_asm.specs.declared.mnemonics.Slot.{Slot}
+use Rattle.fp_asm.specs.declared.mnemonics.Slot.TheVariants.{Rd, Rs1, Rs2, Csr, Number, Memory}
+use Rattle.fp_asm.specs.declared.mnemonics.Slot.TheVariants.{Value}
 
 -- An address or a word: a number, or a label plus a number.
 pub data Target : Type 0 where

@@ -14,9 +14,9 @@ use Rattle.fp_asm.specs.Words.{is_within, instruction, halves, load_instructions
 use Rattle.fp_asm.specs.First.{Labels, location_of}
 use Rattle.fp_asm.specs.Faults.{next, holds, present, in_line}
 use Rattle.rv_decode.specs.declared.instruction.BranchOp.{BranchOp}
-use Rattle.fp_asm.specs.declared.table.Plain.{Plain}
-use Rattle.fp_asm.specs.declared.table.Makes.{Makes}
-use Rattle.fp_asm.specs.declared.table.Makes.TheVariants as makes
+use Rattle.fp_asm.specs.declared.mnemonics.Plain.{Plain}
+use Rattle.fp_asm.specs.declared.mnemonics.Makes.{Makes}
+use Rattle.fp_asm.specs.declared.mnemonics.Makes.TheVariants as makes
 use Rattle.fp_asm.specs.declared.refusal.AsmNo.{AsmNo}
 use Rattle.fp_asm.specs.declared.refusal.AsmNo.TheVariants as no
 use Rattle.fp_asm.specs.declared.refusal.AsmRefused.{AsmRefused}

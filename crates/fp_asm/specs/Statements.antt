@@ -9,8 +9,8 @@ use Rattle.fp_asm.specs.Mnemonics.{Mnemonic, mnemonic}
 use Rattle.fp_asm.specs.Operands.{Target, Operands, nothing_given, all_filled, all_targets}
 use Rattle.fp_asm.specs.Words.{is_within, load_instructions}
 use Rattle.fp_asm.specs.Faults.{next, holds, present}
-use Rattle.fp_asm.specs.declared.table.Makes.{Makes}
-use Rattle.fp_asm.specs.declared.table.Makes.TheVariants.{Li, La, Words, Org, Space}
+use Rattle.fp_asm.specs.declared.mnemonics.Makes.{Makes}
+use Rattle.fp_asm.specs.declared.mnemonics.Makes.TheVariants.{Li, La, Words, Org, Space}
 use Rattle.fp_asm.specs.declared.refusal.AsmNo.{AsmNo}
 use Rattle.fp_asm.specs.declared.refusal.AsmNo.TheVariants as no
 

@@ -10,8 +10,8 @@ use Rattle.rv_decode.specs.declared.instruction.Ins.TheVariants.{Fence, Ecall, E
 use Rattle.rv_decode.specs.declared.instruction.Ins.TheVariants.{Csr, Gt, Gth, Du, Wu, Ee, De}
 use Rattle.rv_decode.specs.declared.instruction.ImmOp.TheVariants.{Addi, Xori}
 use Rattle.fp_asm.specs.Operands.{Operands}
-use Rattle.fp_asm.specs.declared.table.Plain.{Plain}
-use Rattle.fp_asm.specs.declared.table.Plain.TheVariants as plain
+use Rattle.fp_asm.specs.declared.mnemonics.Plain.{Plain}
+use Rattle.fp_asm.specs.declared.mnemonics.Plain.TheVariants as plain
 
 -- from one number to another
 abbrev pub is_within : ℤ → ℤ → ℤ → Bool

@@ -6,11 +6,11 @@ ghost use Rattle.fp_asm.specs.Faults.{IsFaultOf};
 ghost use Rattle.fp_asm.specs.Runs.{ArePlaced};
 
 use super::build::{image_of, rising};
-use super::first::First;
+use super::first_pass::First;
 use super::lines::lines;
 use super::refusal::{AsmNo, AsmRefused};
 use super::runs::runs_of;
-use super::second::Second;
+use super::second_pass::Second;
 use fp_image::Image;
 use std::alloc::Global;
 use std::collections::{BTreeMap, BTreeSet};

@@ -9,8 +9,8 @@ ghost use Rattle.fp_asm.specs.Words.{instruction as instruction_of, upper as upp
 ghost use Rattle.fp_asm.specs.Words.{rest as rest_of, halves as halves_of, load_instructions};
 ghost use Rattle.fp_asm.specs.AbstractOperands.{abstract_operands};
 
+use super::mnemonics::Plain;
 use super::operands::Operands;
-use super::table::Plain;
 use rv_decode::{CsrKind, ImmOp, Ins, LoadOp, ShiftOp, StoreOp, encode};
 use std::alloc::{AllocError, Global};
 

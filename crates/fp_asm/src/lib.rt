@@ -9,23 +9,23 @@
 mod addresses;
 mod assembler;
 mod build;
-mod first;
-mod forms;
+mod first_pass;
 mod instruction;
 mod labels;
 mod lines;
 mod memory;
+mod mnemonics;
 mod names;
+mod operand_forms;
 mod operands;
 mod pieces;
 mod refusal;
 mod runs;
-mod second;
+mod second_pass;
 mod size;
 mod statement;
-mod table;
+mod statement_words;
 mod targets;
-mod words;
 
 pub use assembler::{MOST_SOURCE_BYTES, assemble};
 pub use refusal::{AsmNo, AsmRefused};

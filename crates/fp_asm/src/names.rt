@@ -109,7 +109,7 @@ fn csr_names() -> &'static [Name]
 }
 
 /// The first row of a table with this name.
-fn row_of(names: &'static [Name], text: &[u8]) -> Option<&'static Name>
+fn name_row(names: &'static [Name], text: &[u8]) -> Option<&'static Name>
     ensures { option_copied result ≡ find (λ row. bytes_eq row.0.now text.now) names.now }
 {
     names.iter().find(|row| row.0 == text)
@@ -120,7 +120,7 @@ fn row_of(names: &'static [Name], text: &[u8]) -> Option<&'static Name>
 fn number_of(names: &'static [Name], text: &[u8]) -> Option<u32>
     ensures { result ≡ value_named (map abstract_name names.now) text.now }
 {
-    let row = row_of(names, text)?;
+    let row = name_row(names, text)?;
     Some(row.1)
 }
 

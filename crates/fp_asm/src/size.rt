@@ -6,9 +6,9 @@ ghost use Rattle.fp_asm.specs.Statements.{location_after as location_after_of};
 ghost use Rattle.fp_asm.specs.AbstractOperands.{abstract_statement};
 
 use super::instruction::{load_size, low_word};
+use super::mnemonics::Makes;
 use super::operands::Operands;
 use super::statement::Statement;
-use super::table::Makes;
 
 /// The absolute value of the number in the operands.
 fn magnitude(operands: &Operands) -> u64

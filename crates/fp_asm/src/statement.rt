@@ -12,11 +12,11 @@ ghost use Rattle.fp_asm.specs.AbstractPieces.{abstract_piece, abstract_operand, 
 ghost use Rattle.fp_asm.specs.AbstractOperands.{abstract_target, abstract_operands};
 ghost use Rattle.fp_asm.specs.AbstractOperands.{abstract_statement};
 
-use super::forms::{fill_all, nothing_given, targets};
+use super::mnemonics::{Makes, Row, mnemonic};
+use super::operand_forms::{fill_all, nothing_given, targets};
 use super::operands::{Operands, Target};
 use super::pieces::{Piece, operands};
 use super::refusal::{AsmNo, LineStop};
-use super::table::{Makes, Row, mnemonic};
 use region_guard::SMALL_SIZE;
 use std::alloc::{AllocError, Global};
 

@@ -3,8 +3,8 @@
 ghost use Rattle.std.specs.Prelude.{◌≡◌, ℕ};
 ghost use Rattle.fp_ports.specs.Kinds.{new_held, held_word};
 
+use crate::device::Port;
 use crate::feeds::Feeds;
-use crate::port::Port;
 use std::alloc::{AllocError, Global};
 use std::marker::Model;
 

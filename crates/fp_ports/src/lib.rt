@@ -2,15 +2,15 @@
 
 #![tactic(auto)]
 
+mod device;
 mod feeds;
 mod held;
-mod port;
 mod ports;
 mod ramp;
 mod wave;
 
+pub use device::Port;
 pub use held::HeldPort;
-pub use port::Port;
 pub use ports::{
     ABSENT_WORD, Ports, THREADS, feed_port, forget_port, latch_of, read_port, unplug, write_port,
 };

@@ -9,7 +9,7 @@ ghost use Rattle.fp_ports.specs.PluggedPorts.{row_of, rows_of, row_at, word_seen
 ghost use Rattle.fp_ports.specs.PluggedPorts.{latch_seen, row_with_word, fed, Forgot};
 ghost use Rattle.fp_ports.specs.PortWords.{SameWords, fed_words};
 
-use crate::port::Port;
+use crate::device::Port;
 use std::alloc::AllocError;
 
 /// The number of hardware threads, each with a port.

@@ -3,8 +3,8 @@
 ghost use Rattle.std.specs.Prelude.{◌≡◌, ℕ, ◌<◌};
 ghost use Rattle.fp_ports.specs.Ramp.{new_ramp, ramp, shown_word};
 
+use crate::device::Port;
 use crate::held::HeldPort;
-use crate::port::Port;
 use std::alloc::{AllocError, Global};
 use std::marker::Model;
 

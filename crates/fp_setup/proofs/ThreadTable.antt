@@ -18,7 +18,7 @@ use Rattle.fp_setup.specs.Checks.{is_in}
 use Rattle.fp_setup.specs.FaultOrder.{integers, addresses, value_check, keys_fault}
 use Rattle.fp_setup.specs.FaultOrder.{unknown_fault, thread_table_fault}
 use Rattle.fp_setup.specs.SetupOfTables.{id_at, mode_at, thread_setup}
-use Rattle.fp_setup.specs.Rows.{row_of}
+use Rattle.fp_setup.specs.Rows.{thread_row_of}
 use Rattle.fp_setup.specs.Inputs.{AreInputs}
 use Rattle.fp_setup.specs.Threads.{IsThread}
 
@@ -66,6 +66,6 @@ pub row-from : (ms : Members) (i m en : ℕ) (cf pm : Bool) (at : Option ℕ) (i
       id = i;
       mode = m;
       thread = record { entry = en; confined = cf; permit = pm; unplug = at; inputs = is };
-    }) (row_of ms)
+    }) (thread_row_of ms)
 unfolding thread_setup
 row-from ms i m en cf pm at is a b c d e f g = cc

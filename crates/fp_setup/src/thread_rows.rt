@@ -15,7 +15,7 @@ ghost use Rattle.fp_setup.specs.FaultOrder.{key_fault, thread_fault, thread_tabl
 ghost use Rattle.fp_setup.specs.FaultOrder.{threads_fault, threads_from};
 ghost use Rattle.fp_setup.specs.SetupOfTables.{id_at, mode_at, modes_of, thread_setup};
 ghost use Rattle.fp_setup.specs.SetupOfTables.{threads_of, default_thread, unnamed_mode};
-ghost use Rattle.fp_setup.specs.Rows.{row_of, rows_of};
+ghost use Rattle.fp_setup.specs.Rows.{thread_row_of, rows_of};
 ghost use Rattle.fp_setup.specs.Reading.{IsReadInMemory};
 
 use crate::bounds::Range;
@@ -106,7 +106,7 @@ fn thread_table(
     requires high { size ≤ large_size }
     ensures read { IsReadInMemory result
         (thread_table_fault size ids.now row (table_view table.now))
-        (row_of (table_view table.now)) }
+        (thread_row_of (table_view table.now)) }
     ensures id { IfOk result (λ r. r.id < 8) }
     ensures not_taken { IfOk result (λ r. list_any (λ k. k == r.id) ids.now ≡ false) }
     ensures mode { IfOk result (λ r. r.mode < 4) }
@@ -151,7 +151,7 @@ fn thread_in(
     requires high { size ≤ large_size }
     ensures read { IsReadInMemory result
         (thread_fault size ids.now row (as_table (view value.now)))
-        (row_of (members (view value.now))) }
+        (thread_row_of (members (view value.now))) }
     ensures id { IfOk result (λ r. r.id < 8) }
     ensures not_taken { IfOk result (λ r. list_any (λ k. k == r.id) ids.now ≡ false) }
     ensures mode { IfOk result (λ r. r.mode < 4) }

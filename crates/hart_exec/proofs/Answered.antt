@@ -24,7 +24,7 @@ use Rattle.trap_unit.specs.Rows.{with_trap}
 use Rattle.hart_exec.specs.declared.hart.Hart.{Hart}
 use Rattle.hart_exec.specs.declared.result.ExecResult.{ExecResult}
 use Rattle.hart_exec.specs.Units.{RefinesExecution, Units, abstract_result}
-use Rattle.hart_exec.specs.Units.{own_of, row_of, units_after, units_of}
+use Rattle.hart_exec.specs.Units.{own_of, own_at, units_after, units_of}
 use Rattle.hart_exec.proofs.Left.{left, sleep_kept, timers_kept}
 
 -- the execution of a CSR instruction, by the result of the access
@@ -218,14 +218,14 @@ refused h k g x d pc w d_is thread timers traps sched guard r =
           ≡ trapped pc o w cause_illegal) own r.did;
       units =
           r.units ∙ ap₂ (λ (n : ℕ) (u : Units).
-          units_after n (trapped pc (row_of n u) w cause_illegal) u) thread units;
+          units_after n (trapped pc (own_at n u) w cause_illegal) u) thread units;
     })
   where
     units : units_of k ≡ units_of h
     units = λ j. record { timers = timers j; traps = traps j; sched = sched j; guard = guard j }
 
     own : own_of k ≡ own_of h
-    own = ap₂ row_of thread units
+    own = ap₂ own_at thread units
 
 -- an access that reads changes no unit
 pub read_csr : (h g : Hart) (x : ExecResult) (d : Execution) (pc w lag rd old : ℕ) →

@@ -28,15 +28,15 @@ units_of h =
     record { timers = h.timers.now; traps = h.traps.now; sched = h.sched.now; guard = h.guard.now }
 
 -- a thread's state in the units
-abbrev pub row_of : ℕ → Units → Own
-row_of k u = record {
+abbrev pub own_at : ℕ → Units → Own
+own_at k u = record {
   timer = timer_of u.timers k;
   trap = trap_of u.traps k;
   sleep = slice_index_or u.sched.sleep k 0;
 }
 
 abbrev pub own_of : Hart → Own
-own_of h = row_of h.thread (units_of h)
+own_of h = own_at h.thread (units_of h)
 
 -- the rights of the thread's instruction, by the current units
 unfoldable pub environment_of : Hart → Environment

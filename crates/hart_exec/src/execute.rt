@@ -12,12 +12,12 @@ ghost use Rattle.hart_exec.specs.Effects.{HasWord, HasTarget, is_rare, is_freque
 ghost use Rattle.hart_exec.specs.Results.{IsPlain, IsWellFormed};
 ghost use Rattle.hart_exec.specs.Units.{Holds, RefinesExecution, environment_of, own_of, units_of};
 
+use crate::access_checks::{load, store};
 use crate::csr::{Access, access_csr};
 use crate::hart::Hart;
-use crate::memory::{load, store};
-use crate::outcomes::{branch_on, jump, pass, return_from_trap, trap, trap_if_rare, write};
+use crate::outcomes::{branch_on, do_nothing, jump, return_from_trap, trap, trap_if_rare, write};
 use crate::result::{ExecResult, PcWord, Sources};
-use crate::timing::{arm, delay_until, disarm, read_high, read_low, wait_until};
+use crate::timed_instructions::{arm, delay_until, disarm, read_high, read_low, wait_until};
 use rv_decode::{Ins, decode};
 use rv_exec::{Outcome, cause, execute};
 use timer_unit::moment;
@@ -79,7 +79,7 @@ fn execute_untrapped<const RARE: bool>(
         Ins::Branch { .. } => Some(branch_on(at, i, o.taken, o.target)),
         Ins::Load { op, .. } => load::<RARE>(hart, at, i, op, o.address),
         Ins::Store { op, .. } => store::<RARE>(hart, at, i, op, o.address, s.b),
-        Ins::Muldiv { .. } | Ins::Fence { .. } => Some(pass(at, i)),
+        Ins::Muldiv { .. } | Ins::Fence { .. } => Some(do_nothing(at, i)),
         Ins::Mret => Some(return_from_trap(hart, at, i)),
         Ins::Csr { op, rd, csr, src } => {
             let wanted = Access::of(op, src, s.a);

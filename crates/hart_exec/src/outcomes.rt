@@ -97,7 +97,7 @@ pub fn trap_if_rare<const RARE: bool>(
 
 /// An instruction that does nothing but go on to the next word.
 #[inline(always)]
-pub fn pass(at: PcWord, i: &Ins) -> ExecResult
+pub fn do_nothing(at: PcWord, i: &Ins) -> ExecResult
     requires { at.pc % 4 ≡ 0 }
     ensures refines { RefinesInPlace result (λ own. advance at.pc own at.word
         (lag i.now false false) Nothing) }

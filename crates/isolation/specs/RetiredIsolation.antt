@@ -9,7 +9,7 @@ use Rattle.core_model.specs.Phases.{phases, keeps_regions, is_never_soft}
 use Rattle.core_model.specs.Phased.{phased}
 use Rattle.isolation.specs.Isolation.{StartsConfined, StartsConfinedHard, StartsUnconfinedHard}
 use Rattle.isolation.specs.Wide.{wide_view, wide_solo}
-use Rattle.core_model.specs.Cycles.{cycles_to_w}
+use Rattle.core_model.specs.Delays.{cycles_to_w}
 
 -- If no retired issue writes a configuration register, the events of a confined hard thread are
 -- those of the one-thread definition over its view. The issues in flight may write anything.

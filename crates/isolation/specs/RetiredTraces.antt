@@ -11,7 +11,7 @@ use Rattle.isolation.specs.TraceLaws.{IsConfinedHard, IsConfinedThrough, IsUncon
 use Rattle.isolation.specs.TraceLaws.{Machine, phases_in, trace, view_of, wide_view_of}
 use Rattle.isolation.specs.Wide.{wide_solo}
 use Rattle.setup_model.specs.Start.{start}
-use Rattle.core_model.specs.Cycles.{cycles_to_w}
+use Rattle.core_model.specs.Delays.{cycles_to_w}
 
 -- no issue that has retired after n cycles writes a configuration register
 abbrev pub IsRetiredQuiet : Machine → ℕ → Type 0

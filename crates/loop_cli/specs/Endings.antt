@@ -4,10 +4,10 @@ use Rattle.loop_runs.specs.declared.driver.LoopStop.TheVariants.{NoMemory, PutFa
 use Rattle.loop_commands.specs.Faults.{no_memory}
 use Rattle.loop_commands.specs.declared.fault.LoopFault.{LoopFault}
 use Rattle.loop_commands.specs.declared.fault.LoopFault.TheVariants.{Write}
-use Rattle.loop_cli.specs.declared.fault.Fault.{Fault}
-use Rattle.loop_cli.specs.declared.fault.Fault.TheVariants.{Run}
+use Rattle.loop_cli.specs.declared.fault.RunFault.{RunFault}
+use Rattle.loop_cli.specs.declared.fault.RunFault.TheVariants.{Run}
 
-abbrev pub of_run : LoopStop → Fault
+abbrev pub of_run : LoopStop → RunFault
 of_run NoMemory = Run no_memory
 of_run PutFailed = Run Write
 

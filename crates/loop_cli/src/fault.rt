@@ -13,7 +13,7 @@ const PLANT_STATUS: u8 = 10;
 
 /// Why a run ended before its trace.
 #[derive(Clone, Copy)]
-pub enum Fault {
+pub enum RunFault {
     /// A fault of the arguments, the files, the trace or memory.
     Run(LoopFault),
     /// The plant at the pipe reads no line, or writes none.
@@ -22,20 +22,20 @@ pub enum Fault {
     NoWord,
 }
 
-impl Fault {
+impl RunFault {
     /// The exit status: that of `flexpret` for the same fault, of usage for a list of plants, and
     /// [`PLANT_STATUS`] for a plant at the pipe.
     pub fn status(&self) -> u8 {
         match self {
-            Fault::Run(fault) => fault.status().number(),
-            Fault::PlantEnded | Fault::NoWord => PLANT_STATUS,
+            RunFault::Run(fault) => fault.status().number(),
+            RunFault::PlantEnded | RunFault::NoWord => PLANT_STATUS,
         }
     }
 
     /// The number of the line of the list that has a fault.
     pub fn line(&self) -> Option<u64> {
         match self {
-            Fault::Run(LoopFault::Listed(ListNo::Line { number })) => Some(*number),
+            RunFault::Run(LoopFault::Listed(ListNo::Line { number })) => Some(*number),
             _ => None,
         }
     }
@@ -43,9 +43,9 @@ impl Fault {
     /// The line for standard error, without the place of a line.
     pub fn message(&self) -> &'static str {
         match self {
-            Fault::Run(fault) => message_of(fault),
-            Fault::PlantEnded => "loop_cli: the plant at the pipe ended before the run",
-            Fault::NoWord => "loop_cli: the plant at the pipe answered no word of 32 bits",
+            RunFault::Run(fault) => message_of(fault),
+            RunFault::PlantEnded => "loop_cli: the plant at the pipe ended before the run",
+            RunFault::NoWord => "loop_cli: the plant at the pipe answered no word of 32 bits",
         }
     }
 }
@@ -71,52 +71,52 @@ fn message_of(fault: &LoopFault) -> &'static str {
     }
 }
 
-impl From<LoopFault> for Fault {
-    fn from(fault: LoopFault) -> Fault {
-        Fault::Run(fault)
+impl From<LoopFault> for RunFault {
+    fn from(fault: LoopFault) -> RunFault {
+        RunFault::Run(fault)
     }
 }
 
-impl From<LoopStop> for Fault {
+impl From<LoopStop> for RunFault {
     ghost use Rattle.std.specs.Prelude.{◌≡◌};
     ghost use Rattle.loop_cli.specs.Endings.{of_run};
 
     ghost from_gives = { λ stop fault. fault ≡ of_run stop };
 
-    fn from(stop: LoopStop) -> Fault {
+    fn from(stop: LoopStop) -> RunFault {
         match stop {
-            LoopStop::NoMemory => Fault::Run(LoopFault::Stopped(CommandStop::NoMemory)),
-            LoopStop::PutFailed => Fault::Run(LoopFault::Write),
+            LoopStop::NoMemory => RunFault::Run(LoopFault::Stopped(CommandStop::NoMemory)),
+            LoopStop::PutFailed => RunFault::Run(LoopFault::Write),
         }
     }
 }
 
-impl From<PutFailed> for Fault {
-    fn from(_error: PutFailed) -> Fault {
-        Fault::Run(LoopFault::Write)
+impl From<PutFailed> for RunFault {
+    fn from(_error: PutFailed) -> RunFault {
+        RunFault::Run(LoopFault::Write)
     }
 }
 
-impl From<AllocError> for Fault {
+impl From<AllocError> for RunFault {
     ghost use Rattle.std.specs.Prelude.{◌≡◌};
     ghost use Rattle.loop_commands.specs.Faults.{no_memory};
-    ghost use Rattle.loop_cli.specs.declared.fault.Fault.TheVariants.{Run};
+    ghost use Rattle.loop_cli.specs.declared.fault.RunFault.TheVariants.{Run};
 
     ghost from_gives = { λ _ fault. fault ≡ Run no_memory };
 
-    fn from(_error: AllocError) -> Fault {
-        Fault::Run(LoopFault::Stopped(CommandStop::NoMemory))
+    fn from(_error: AllocError) -> RunFault {
+        RunFault::Run(LoopFault::Stopped(CommandStop::NoMemory))
     }
 }
 
-impl<T: Drop> From<AllocFailed<T>> for Fault {
+impl<T: Drop> From<AllocFailed<T>> for RunFault {
     ghost use Rattle.std.specs.Prelude.{◌≡◌};
     ghost use Rattle.loop_commands.specs.Faults.{no_memory};
-    ghost use Rattle.loop_cli.specs.declared.fault.Fault.TheVariants.{Run};
+    ghost use Rattle.loop_cli.specs.declared.fault.RunFault.TheVariants.{Run};
 
     ghost from_gives = { λ _ fault. fault ≡ Run no_memory };
 
-    fn from(_failed: AllocFailed<T>) -> Fault {
-        Fault::Run(LoopFault::Stopped(CommandStop::NoMemory))
+    fn from(_failed: AllocFailed<T>) -> RunFault {
+        RunFault::Run(LoopFault::Stopped(CommandStop::NoMemory))
     }
 }

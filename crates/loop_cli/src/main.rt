@@ -15,7 +15,7 @@ mod listed;
 mod pipe;
 mod piped;
 
-use crate::fault::Fault;
+use crate::fault::RunFault;
 use crate::listed::run_listed;
 use crate::pipe::{Pipe, WriterSink};
 use crate::piped::{pipe_thread, run_piped};
@@ -28,7 +28,7 @@ use std::process::ExitCode;
 use std::{env, io};
 
 /// Runs a program with the plants of its list, and prints the trace of the thread.
-fn print_run(rt: HostRuntime, run: LoopRun, ports: &mut Ports) -> Result<(), Fault>
+fn print_run(rt: HostRuntime, run: LoopRun, ports: &mut Ports) -> Result<(), RunFault>
     requires limits { IsWithinLimits run.ask }
     requires plants { vec_len run.plants ≡ 8 }
     requires eight { vec_len ports.old ≡ 8 }
@@ -41,7 +41,7 @@ fn print_run(rt: HostRuntime, run: LoopRun, ports: &mut Ports) -> Result<(), Fau
 
 /// Runs a program with the plants of its list, and with the plant at the pipe at a thread's port.
 /// Prints the trace and the exchanges to standard error, after a fault those before it.
-fn run_at_pipe(rt: HostRuntime, run: LoopRun, ports: &mut Ports, thread: u8) -> Result<(), Fault>
+fn run_at_pipe(rt: HostRuntime, run: LoopRun, ports: &mut Ports, thread: u8) -> Result<(), RunFault>
     requires limits { IsWithinLimits run.ask }
     requires plants { vec_len run.plants ≡ 8 }
     requires eight { vec_len ports.old ≡ 8 }
@@ -55,7 +55,7 @@ fn run_at_pipe(rt: HostRuntime, run: LoopRun, ports: &mut Ports, thread: u8) -> 
 }
 
 /// Does the run that the arguments give, with these devices.
-fn answer(rt: HostRuntime, words: &[String], ports: &mut Ports) -> Result<(), Fault>
+fn answer(rt: HostRuntime, words: &[String], ports: &mut Ports) -> Result<(), RunFault>
     requires { vec_len ports.old ≡ 8 }
 {
     let run = read_loop(rt.alloc(), words, &mut RealFiles::new(rt))?;
@@ -66,18 +66,18 @@ fn answer(rt: HostRuntime, words: &[String], ports: &mut Ports) -> Result<(), Fa
 }
 
 /// The arguments after the program's name. A reader of its own, with the faults of this program.
-fn read_args(rt: HostRuntime) -> Result<Vec<String>, Fault> {
+fn read_args(rt: HostRuntime) -> Result<Vec<String>, RunFault> {
     match env::args(&rt) {
         Ok(args) => Ok(args.skip(1).collect(rt.alloc())?),
         Err(error) if error.kind() == io::ErrorKind::InvalidData => {
-            Err(Fault::Run(LoopFault::Usage))
+            Err(RunFault::Run(LoopFault::Usage))
         }
-        Err(_) => Err(Fault::from(AllocError)),
+        Err(_) => Err(RunFault::from(AllocError)),
     }
 }
 
 /// Does the run of the command line. Each thread has a port, which shows 0 until it is fed.
-fn run(rt: HostRuntime) -> Result<(), Fault> {
+fn run(rt: HostRuntime) -> Result<(), RunFault> {
     let alloc = rt.alloc();
     let words = read_args(rt)?;
     let mut ports: Ports = Vec::new(alloc);
@@ -88,7 +88,7 @@ fn run(rt: HostRuntime) -> Result<(), Fault> {
 }
 
 /// Reports a fault on standard error, in one line.
-fn report(rt: HostRuntime, fault: &Fault) {
+fn report(rt: HostRuntime, fault: &RunFault) {
     let _ = match fault.line() {
         Some(line) => eprintln!(rt;
             "loop_cli: line {line} of the list isn't `THREAD body|motor STEPS`, \

@@ -3,7 +3,7 @@
 
 ghost use Rattle.std.specs.Prelude.{◌≤◌};
 
-use crate::fault::Fault;
+use crate::fault::RunFault;
 use fp_io::{PutFailed, Sink};
 use std::alloc::{AllocError, Global};
 use std::io::{Read, Write};
@@ -25,7 +25,7 @@ struct Answers<R> {
 
 impl<R: Read + Drop> Answers<R> {
     /// The word of the next line.
-    fn next_word(&mut self) -> Result<u32, Fault> {
+    fn next_word(&mut self) -> Result<u32, RunFault> {
         for _read in 0..ROOM {
             if let Some(end) = self.room[..self.len].iter().position(|byte| *byte == b'\n') {
                 return self.take_word(end);
@@ -36,12 +36,12 @@ impl<R: Read + Drop> Answers<R> {
     }
 
     /// Reads more bytes.
-    fn read_more(&mut self) -> Result<(), Fault> {
+    fn read_more(&mut self) -> Result<(), RunFault> {
         if self.len == ROOM {
-            return Err(Fault::NoWord);
+            return Err(RunFault::NoWord);
         }
         match self.reader.read(&mut self.room[self.len..]) {
-            Ok(0) | Err(_) => Err(Fault::PlantEnded),
+            Ok(0) | Err(_) => Err(RunFault::PlantEnded),
             Ok(count) => {
                 self.len += count;
                 Ok(())
@@ -50,11 +50,11 @@ impl<R: Read + Drop> Answers<R> {
     }
 
     /// The word of a line that ends before the byte `end`, which is its end of line.
-    fn take_word(&mut self, end: usize) -> Result<u32, Fault> {
+    fn take_word(&mut self, end: usize) -> Result<u32, RunFault> {
         if end >= self.len {
-            return Err(Fault::NoWord);
+            return Err(RunFault::NoWord);
         }
-        let word = word_of(&self.room[..end]);
+        let word = parse_word(&self.room[..end]);
         self.room.copy_within(end + 1..self.len, 0);
         self.len -= end + 1;
         word
@@ -62,9 +62,9 @@ impl<R: Read + Drop> Answers<R> {
 }
 
 /// The word that a text is: a decimal number of 32 bits, signed or not, among blanks.
-fn word_of(bytes: &[u8]) -> Result<u32, Fault> {
+fn parse_word(bytes: &[u8]) -> Result<u32, RunFault> {
     let Ok(text) = std::str::from_utf8(bytes) else {
-        return Err(Fault::NoWord);
+        return Err(RunFault::NoWord);
     };
     let number = text.trim();
     if let Ok(word) = number.parse::<u32>() {
@@ -72,7 +72,7 @@ fn word_of(bytes: &[u8]) -> Result<u32, Fault> {
     }
     match number.parse::<i32>() {
         Ok(word) => Ok(word.cast_unsigned()),
-        Err(_) => Err(Fault::NoWord),
+        Err(_) => Err(RunFault::NoWord),
     }
 }
 
@@ -104,10 +104,10 @@ impl<R: Read + Drop, K: Sink + Drop> Pipe<R, K> {
     /// # Errors
     ///
     /// `PlantEnded` if the plant reads no line or writes none; `NoWord`; `NoMemory`.
-    pub fn send(&mut self, cycle: u64, drive: u32) -> Result<u32, Fault> {
+    pub fn send(&mut self, cycle: u64, drive: u32) -> Result<u32, RunFault> {
         let line = format!(in self.alloc; "{cycle} {drive}\n")?;
         if self.out.put(line.as_bytes()).is_err() {
-            return Err(Fault::PlantEnded);
+            return Err(RunFault::PlantEnded);
         }
         self.answers.next_word()
     }

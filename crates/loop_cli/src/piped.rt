@@ -5,7 +5,7 @@
 ghost use Rattle.std.specs.Prelude.{◌≡◌, ◌<◌, ◌≤◌, IfSome, length, vec_len};
 ghost use Rattle.loop_command_line.specs.Arguments.{IsWithinLimits};
 
-use crate::fault::Fault;
+use crate::fault::RunFault;
 use crate::pipe::Pipe;
 use example_plants::{ListedPlant, plants_of_list};
 use fp_io::Sink;
@@ -46,7 +46,7 @@ pub fn run_piped<R: Read + Drop, A: Sink + Drop, K: Sink>(
     thread: u8,
     pipe: &mut Pipe<R, A>,
     out: &mut K,
-) -> Result<(), Fault>
+) -> Result<(), RunFault>
     requires limits { IsWithinLimits run.ask }
     requires plants { vec_len run.plants ≡ 8 }
     requires eight { vec_len ports.old ≡ 8 }
@@ -75,7 +75,7 @@ fn run_with<R: Read + Drop, A: Sink + Drop, K: Sink>(
     thread: u8,
     pipe: &mut Pipe<R, A>,
     out: &mut K,
-) -> Result<(), Fault>
+) -> Result<(), RunFault>
     requires limits { IsWithinLimits ask.now }
     requires start { machine.old.at ≡ 0 }
     requires ports { vec_len ports.old ≡ 8 }
@@ -102,7 +102,7 @@ fn exchange<R: Read + Drop, A: Sink + Drop, K: Sink>(
     thread: u8,
     pipe: &mut Pipe<R, A>,
     out: &mut K,
-) -> Result<(), Fault>
+) -> Result<(), RunFault>
     requires ports { vec_len ports.old ≡ 8 }
     requires thread { thread < 8 }
     ensures { vec_len ports.new ≡ 8 }

@@ -6,7 +6,7 @@ use Rattle.fp_ports.specs.declared.feeds.Feed.{Feed}
 use Rattle.fp_ports.specs.Kinds.{kept_from}
 use Rattle.fp_ports.specs.PluggedPorts.{Row, Forgot, row_at, fed}
 use Rattle.core_model.specs.World.{Start, has_port, port_word}
-use Rattle.core_model.specs.Cycles.{cycles_to_m}
+use Rattle.core_model.specs.Delays.{cycles_to_m}
 use Rattle.closed_loops.specs.Answered.{with_shown}
 use Rattle.machine.specs.declared.state.Machine.{Machine}
 use Rattle.machine.specs.WorldRelation.{Refines}

@@ -13,4 +13,4 @@ pub use Rattle.isolation.specs.Isolation
 pub use Rattle.timer_unit.specs.Time
 pub use Rattle.trace_print.specs.Text
 pub use Rattle.core_model.specs.World
-pub use Rattle.core_model.specs.Cycles
+pub use Rattle.core_model.specs.Delays

@@ -2,7 +2,7 @@
 
 ghost use Rattle.std.specs.Prelude.{◌≡◌, ℕ, ◌^◌, ◌-◌, ◌<◌, ◌≤◌, length, vec_len, OnOk, OnErr};
 ghost use Rattle.fp_ports.specs.PluggedPorts.{rows_of};
-ghost use Rattle.core_model.specs.Cycles.{cycles_to_m};
+ghost use Rattle.core_model.specs.Delays.{cycles_to_m};
 ghost use Rattle.core_model.specs.World.{Start};
 ghost use Rattle.machine.specs.WorldRelation.{Refines};
 ghost use Rattle.loop_runs.specs.FedRuns.{AllForgot, FeedsRunning};

@@ -18,7 +18,7 @@ use Rattle.trace_print.specs.DumpLines.{timer_text, latch_text, memory_text}
 use Rattle.timer_unit.specs.declared.row.Timer.{Timer}
 use Rattle.core_model.specs.World.{Start, Took, Registers, thread_of, world}
 use Rattle.core_model.specs.World.Took.{Idle, Lost, Ran}
-use Rattle.core_model.specs.Cycles.{cycles_to_e, cycles_to_m, cycles_to_w}
+use Rattle.core_model.specs.Delays.{cycles_to_e, cycles_to_m, cycles_to_w}
 
 -- the turn of cycle n - 1 - e, nobody's before cycle 0
 abbrev pub turn_before : Start → ℕ → ℕ → Took

@@ -1,7 +1,7 @@
 -- Theorems on the fields of a machine, and on ports that refine a cycle of a world.
 use Rattle.std.specs.Prelude.{◌≡◌, ℕ, suc, ◌+◌, ◌<◌, List, length, Option}
 use Rattle.core_model.specs.World.{Start}
-use Rattle.core_model.specs.Cycles.{cycles_to_m}
+use Rattle.core_model.specs.Delays.{cycles_to_m}
 use Rattle.pipe_model.specs.Stages.{StageRegisters, State, Ticked}
 use Rattle.pipe_model.specs.Relation.{PipelineRefines, PortsRefine, RefinesNext}
 use Rattle.machine.specs.DumpedState.{seen}

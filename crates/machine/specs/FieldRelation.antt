@@ -4,7 +4,7 @@ use Rattle.std.specs.Prelude.{◌≡◌, ℕ, zero, suc, ◌+◌, ◌<◌, ◌�
 use Rattle.std.specs.Prelude.{List, slice_index_or, slice_set, Option, None, is_some}
 use Rattle.fp_ports.specs.PluggedPorts.{Row, row_at, word_seen, absent_word}
 use Rattle.fp_ports.specs.ShownWords.{is_gone}
-use Rattle.core_model.specs.Cycles.{cycles_to_m}
+use Rattle.core_model.specs.Delays.{cycles_to_m}
 use Rattle.core_model.specs.World.{Start, port_word}
 use Rattle.pipe_model.specs.Stages.{StageRegisters, State}
 use Rattle.pipe_model.specs.Relation.{PipelineRefines, Begins, stays_in}

@@ -1,5 +1,6 @@
 -- The lines of a dump from the machine's fields, each by its number.
-use Rattle.std.specs.Prelude.{◌≡◌, ℕ, ◌+◌, ◌-◌, ◌*◌, ◌/◌, ◌%◌, ◌==◌, nat_lt, not, ◌||◌, if◌then◌else◌}
+use Rattle.std.specs.Prelude.{◌≡◌, ℕ, ◌+◌, ◌-◌, ◌*◌, ◌/◌, ◌%◌, ◌==◌, nat_lt, not, ◌||◌}
+use Rattle.std.specs.Prelude.{if◌then◌else◌}
 use Rattle.std.specs.Prelude.{List, [], flat_map, slice_index_or, Bool, true, codes}
 use Rattle.std.specs.List.{range_with_len}
 use Rattle.region_guard.specs.Regions.{may_fetch}

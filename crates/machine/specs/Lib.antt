@@ -12,7 +12,7 @@ pub mod Sleeping
 pub mod OneCycle
 pub mod Feeding
 pub mod PortLaws
-pub use Rattle.core_model.specs.Cycles
+pub use Rattle.core_model.specs.Delays
 pub use Rattle.fp_io.specs.Causes
 pub use Rattle.fp_io.specs.Content
 pub use Rattle.fp_ports.specs.PluggedPorts

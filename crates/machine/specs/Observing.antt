@@ -4,7 +4,7 @@ use Rattle.std.specs.Prelude.{List, [], ◌++◌}
 use Rattle.std.specs.Io.KnownBytes.{Appends}
 use Rattle.fp_io.specs.Content.{AppendsPrefix}
 use Rattle.rv_exec.specs.declared.outcome.Event.{Event}
-use Rattle.core_model.specs.Cycles.{cycles_to_w}
+use Rattle.core_model.specs.Delays.{cycles_to_w}
 use Rattle.core_model.specs.World.{Start}
 use Rattle.pipe_model.specs.Relation.{event_in, turn_at}
 

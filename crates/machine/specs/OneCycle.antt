@@ -1,6 +1,6 @@
 -- A cycle of a machine, and skipped cycles, with the stage registers as the stages use them.
 use Rattle.std.specs.Prelude.{◌≡◌, ℕ, ◌+◌, ◌<◌, ◌≤◌, List, length, Option}
-use Rattle.core_model.specs.Cycles.{cycles_to_m}
+use Rattle.core_model.specs.Delays.{cycles_to_m}
 use Rattle.core_model.specs.World.{Start}
 use Rattle.fp_ports.specs.PluggedPorts.{Row}
 use Rattle.pipe_model.specs.declared.stage_registers.Held.{Held}

@@ -3,7 +3,7 @@ use Rattle.std.specs.Prelude.{◌≡◌, ℕ, ◌+◌, ◌-◌, ◌<◌, ◌≤�
 use Rattle.std.specs.Prelude.{Result, OnOk, IfErr}
 use Rattle.std.specs.List.{list_any}
 use Rattle.fp_ports.specs.PluggedPorts.{Row}
-use Rattle.core_model.specs.Cycles.{cycles_to_m}
+use Rattle.core_model.specs.Delays.{cycles_to_m}
 use Rattle.core_model.specs.World.{Start}
 use Rattle.pipe_model.specs.Stages.{StageRegisters}
 use Rattle.pipe_model.specs.declared.stage_registers.Held.{Held}

@@ -22,7 +22,7 @@ use Rattle.machine.specs.FieldRelation.{FieldsRefine}
 use Rattle.machine.specs.DumpedState.{is_port_left}
 use Rattle.machine.specs.Observing.{retires}
 use Rattle.machine.specs.declared.state.Machine.{Machine}
-use Rattle.core_model.specs.Cycles.{cycles_to_m}
+use Rattle.core_model.specs.Delays.{cycles_to_m}
 
 -- the machine with these stage registers and the ports refine cycle c of the world; its lists of
 -- shown words have n entries

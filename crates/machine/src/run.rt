@@ -5,7 +5,7 @@ ghost use Rattle.std.specs.Prelude.{OnOk, OnErr, IfSome, vec_len, if◌then◌el
 ghost use Rattle.fp_io.specs.Causes.{HasRisen};
 ghost use Rattle.timer_unit.specs.Time.{most_cycles};
 ghost use Rattle.fp_ports.specs.PluggedPorts.{rows_of};
-ghost use Rattle.core_model.specs.Cycles.{cycles_to_m, cycles_to_w};
+ghost use Rattle.core_model.specs.Delays.{cycles_to_m, cycles_to_w};
 ghost use Rattle.core_model.specs.World.{Start};
 ghost use Rattle.pipe_model.specs.Stages.{retired_event, writeback_stage};
 ghost use Rattle.pipeline_core.specs.Abstraction.{abstract_stages, registers_in};
@@ -119,7 +119,7 @@ impl Run<'_> {
     /// one. The loop is inlined into the loop over puts, so one function has both, with all
     /// stages.
     #[inline(always)]
-    fn advance<O: Observer>(
+    fn advance_to_put<O: Observer>(
         &mut self,
         end: u64,
         ports: &mut Ports,
@@ -180,7 +180,7 @@ impl Run<'_> {
         ensures on { self.old.machine.now.at < self.new.machine.now.at }
         ensures eight { vec_len ports.new ≡ 8 }
     {
-        let Some(leaving) = self.advance(end, ports, observer) else {
+        let Some(leaving) = self.advance_to_put(end, ports, observer) else {
             return Ok(());
         };
         if let Err(_failed) = observer.write(out) {

@@ -13,7 +13,7 @@ use Rattle.core_model.specs.Issue.{late_rd, source_1, source_2}
 use Rattle.core_model.specs.Memory.{code_at}
 use Rattle.core_model.specs.World.{Start, World, Took, world, thread_of}
 use Rattle.core_model.specs.World.Took.{Idle, Lost, Ran}
-use Rattle.core_model.specs.Cycles.{cycles_to_e, cycles_to_m}
+use Rattle.core_model.specs.Delays.{cycles_to_e, cycles_to_m}
 use Rattle.pipe_model.specs.declared.stage_registers.Held.{Held}
 use Rattle.pipe_model.specs.declared.stage_registers.Held.TheVariants.{Bubble, Flushed, Issue}
 use Rattle.pipe_model.specs.declared.stage_registers.Decoded.{Decoded}

@@ -8,7 +8,7 @@ use Rattle.pipe_model.specs.Contents.{Contents}
 use Rattle.pipe_model.specs.StageView.{Shown}
 use Rattle.pipe_model.specs.Relation.{PipelineRefines, PortsRefine, Begins, RefinesNext, HasLatches}
 use Rattle.pipe_model.specs.Relation.{bank_in, control_in, turn_at, event_in, of_thread}
-use Rattle.core_model.specs.Cycles.{cycles_to_w}
+use Rattle.core_model.specs.Delays.{cycles_to_w}
 
 -- if a state refines a cycle, its state after one cycle refines the next one
 abbrev pub StepRefines : Type 0

@@ -26,7 +26,7 @@ use Rattle.pipe_model.specs.declared.stage_registers.Executed.{Executed}
 use Rattle.pipe_model.specs.declared.stage_registers.Stored.{Stored}
 use Rattle.pipe_model.specs.declared.stage_registers.Written.{Written}
 use Rattle.pipe_model.specs.Stages.{StageRegisters, Control, State, Ticked, event_at}
-use Rattle.core_model.specs.Cycles.{cycles_to_e, cycles_to_m, cycles_to_w}
+use Rattle.core_model.specs.Delays.{cycles_to_e, cycles_to_m, cycles_to_w}
 
 -- the turn of cycle c - 1 - e
 abbrev pub turn_at : Start → ℕ → ℕ → Took

@@ -1,6 +1,6 @@
 -- The result of E for a turn.
 use Rattle.std.specs.Prelude.{◌≡◌, ℕ, ◌-◌, Bool, if◌then◌else◌, List, Option, Some, None}
-use Rattle.core_model.specs.Cycles.{cycles_to_e}
+use Rattle.core_model.specs.Delays.{cycles_to_e}
 use Rattle.timer_unit.specs.Time.{time}
 use Rattle.fp_ports.specs.PluggedPorts.{Row}
 use Rattle.pipe_model.specs.declared.stage_registers.Held.{Held}

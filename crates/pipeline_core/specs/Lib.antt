@@ -4,7 +4,7 @@ pub mod Retiring
 pub mod Abstraction
 pub mod Executing
 pub mod YoungerStages
-pub use Rattle.core_model.specs.Cycles
+pub use Rattle.core_model.specs.Delays
 pub use Rattle.core_model.specs.Memory
 pub use Rattle.core_model.specs.Thread
 pub use Rattle.core_model.specs.declared.own.Own

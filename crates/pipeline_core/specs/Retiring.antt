@@ -1,7 +1,7 @@
 -- The issue that retires in a cycle, and its event.
 use Rattle.std.specs.Prelude.{ℕ, ◌-◌, Option}
 use Rattle.rv_exec.specs.declared.outcome.Event.{Event}
-use Rattle.core_model.specs.Cycles.{cycles_to_w}
+use Rattle.core_model.specs.Delays.{cycles_to_w}
 use Rattle.pipe_model.specs.declared.stage_registers.Stored.{Stored}
 use Rattle.pipe_model.specs.Stages.{retired_event}
 use Rattle.pipeline_core.specs.declared.retiring.Retired.{Retired}

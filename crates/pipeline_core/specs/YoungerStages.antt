@@ -1,6 +1,6 @@
 -- The results of D and F in a cycle.
 use Rattle.std.specs.Prelude.{◌≡◌, ℕ, ◌-◌, List, Option}
-use Rattle.core_model.specs.Cycles.{cycles_to_d}
+use Rattle.core_model.specs.Delays.{cycles_to_d}
 use Rattle.slot_scheduler.specs.declared.picking.Pick.{Pick}
 use Rattle.timer_unit.specs.Time.{time}
 use Rattle.pipe_model.specs.declared.stage_registers.Redirect.{Redirect}

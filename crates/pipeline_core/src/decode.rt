@@ -5,7 +5,7 @@ ghost use Rattle.timer_unit.specs.Time.{is_due, time, timer_of, most_cycles};
 ghost use Rattle.rv_decode.specs.Table.{ins};
 ghost use Rattle.core_model.specs.Thread.{reg_in};
 ghost use Rattle.core_model.specs.Issue.{source_1, source_2};
-ghost use Rattle.core_model.specs.Cycles.{cycles_to_d};
+ghost use Rattle.core_model.specs.Delays.{cycles_to_d};
 ghost use Rattle.regfile_bank.specs.Registers.{registers_of};
 ghost use Rattle.pipe_model.specs.declared.stage_registers.Held.TheVariants.{Issue};
 ghost use Rattle.pipeline_core.specs.Turns.{held};
@@ -92,7 +92,7 @@ fn sources(
 }
 
 /// Whether a thread's armed moment was reached in the cycle before this one.
-fn is_due(units: &Units, cycle: u64, thread: u8) -> bool
+fn is_moment_reached(units: &Units, cycle: u64, thread: u8) -> bool
     requires thread { thread < 8 }
     requires cycle { cycle < most_cycles }
     ensures { result ≡ is_due (timer_of units.now.timers thread).armed
@@ -132,7 +132,7 @@ fn decoded(
     Decoded {
         pc: x.pc,
         word: x.word,
-        expired: is_due(units, cycle, thread),
+        expired: is_moment_reached(units, cycle, thread),
         a,
         b,
     }

@@ -6,7 +6,7 @@ ghost use Rattle.rv_exec.specs.Access.{lanes_at};
 ghost use Rattle.rv_exec.specs.Line.{IsWidth};
 ghost use Rattle.core_model.specs.Memory.{code_at, data_at};
 ghost use Rattle.core_model.specs.World.{words_after};
-ghost use Rattle.core_model.specs.Cycles.{cycles_to_m};
+ghost use Rattle.core_model.specs.Delays.{cycles_to_m};
 ghost use Rattle.fp_ports.specs.PluggedPorts.{rows_of, row_at, word_seen};
 ghost use Rattle.pipeline_core.specs.StageFacts.{EffectFits};
 

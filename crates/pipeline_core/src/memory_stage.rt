@@ -6,7 +6,7 @@ ghost use Rattle.rv_exec.specs.Access.{IsAligned};
 ghost use Rattle.core_model.specs.Thread.{with_late_value};
 ghost use Rattle.core_model.specs.Issue.{late_rd, late_value};
 ghost use Rattle.core_model.specs.Memory.{data_at};
-ghost use Rattle.core_model.specs.Cycles.{cycles_to_m};
+ghost use Rattle.core_model.specs.Delays.{cycles_to_m};
 ghost use Rattle.fp_ports.specs.PluggedPorts.{rows_of, row_at, word_seen};
 ghost use Rattle.pipe_model.specs.declared.stage_registers.Held.TheVariants.{Issue};
 ghost use Rattle.rv_exec.specs.declared.outcome.Effect.TheVariants.{Nothing, Reg};

@@ -8,7 +8,7 @@ ghost use Rattle.pipeline_core.specs.StageFacts.{ExecutedFits, StoredFits, Writt
 ghost use Rattle.pipeline_core.specs.StageFacts.{FetchedFits-prop};
 ghost use Rattle.pipeline_core.specs.StageFacts.{DecodedFits-prop, ExecutedFits-prop};
 ghost use Rattle.pipeline_core.specs.StageFacts.{StoredFits-prop, WrittenFits-prop};
-ghost use Rattle.core_model.specs.Cycles.{cycles_to_w};
+ghost use Rattle.core_model.specs.Delays.{cycles_to_w};
 
 use crate::stages::Stages;
 use crate::units::Units;

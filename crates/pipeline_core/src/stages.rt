@@ -9,7 +9,7 @@ ghost use Rattle.pipeline_core.specs.StageFacts.{RedirectFits, FetchedFits-prop}
 ghost use Rattle.pipeline_core.specs.StageFacts.{DecodedFits-prop, ExecutedFits-prop};
 ghost use Rattle.pipeline_core.specs.StageFacts.{StoredFits-prop};
 ghost use Rattle.pipeline_core.specs.Turns.{held, is_bubble};
-ghost use Rattle.core_model.specs.Cycles.{cycles_to_m};
+ghost use Rattle.core_model.specs.Delays.{cycles_to_m};
 
 use crate::decode::decode_stage;
 use crate::execute::execute_stage;

@@ -33,7 +33,7 @@ use Rattle.trap_unit.specs.Rows.{no_trap}
 use Rattle.hart_exec.specs.declared.hart.Hart.{Hart}
 use Rattle.hart_exec.specs.declared.result.ExecResult.{ExecResult}
 use Rattle.hart_exec.specs.Units.{RefinesExecution, Units, environment_of, abstract_result}
-use Rattle.hart_exec.specs.Units.{guard_by, row_of, units_after, units_of}
+use Rattle.hart_exec.specs.Units.{guard_by, own_at, units_after, units_of}
 use Rattle.solo_run.proofs.OwnStore.{kind-is}
 
 same_fetch : (i Z regions : ℕ) → i < 8 → (pc : ℕ) → may_fetch i Z true regions pc
@@ -100,7 +100,7 @@ asked_alone h k confined permit = λ j. record {
 
 -- the units after an instruction hold the thread's new state
 row_after : (k : ℕ) (d : Execution) (u : Units) → k < length u.timers → k < length u.traps →
-    k < length u.sched.sleep → row_of k (units_after k d u) ≡ d.own
+    k < length u.sched.sleep → own_at k (units_after k d u) ≡ d.own
 row_after k d u timers traps sleeps = λ j. record {
   timer = get_or-set_same u.timers k d.own.timer no_timer timers j;
   trap = get_or-set_same u.traps k d.own.trap no_trap traps j;
@@ -279,10 +279,10 @@ pub did_alone : (h g : Hart) (x : ExecResult) (pc : ℕ) (t : Own) (expired : Bo
     h.thread < 8 → h.confined ≡ true → h.permit ≡ false → h.thread < length h.timers.now →
     h.thread < length h.traps.now → h.thread < length h.sched.now.sleep →
     RefinesExecution h g x (execute_in (environment_of h) pc t expired w p q) →
-    abstract_result (row_of h.thread (units_of g)) x
+    abstract_result (own_at h.thread (units_of g)) x
     ≡ execute_in (environment_by h.thread h.guard.now.size (region_kinds h.thread h.guard.now.i)
     (region_kinds h.thread h.guard.now.d) h.time) pc t expired w p q
 did_alone h g x pc t expired w p q k confined permit timers traps sleeps r =
-    ap (λ (o : Own). abstract_result o x) (ap (row_of h.thread) r.units ∙ row_after h.thread
+    ap (λ (o : Own). abstract_result o x) (ap (own_at h.thread) r.units ∙ row_after h.thread
     (execute_in (environment_of h) pc t expired w p q) (units_of h) timers traps sleeps) ∙ r.did
     ∙ ap (λ (a : Environment). execute_in a pc t expired w p q) (asked_alone h k confined permit)

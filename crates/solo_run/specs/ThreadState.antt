@@ -4,14 +4,14 @@ use Rattle.core_model.specs.declared.own.Own.{Own}
 use Rattle.core_model.specs.Thread.{Thread, Completion, Environment}
 use Rattle.core_model.specs.View.{environment_by}
 use Rattle.core_model.specs.Viewed.{region_kinds}
-use Rattle.hart_exec.specs.Units.{row_of}
+use Rattle.hart_exec.specs.Units.{own_at}
 use Rattle.solo_run.specs.declared.thread_state.ThreadState.{ThreadState}
 use Rattle.solo_run.specs.declared.thread_state.Issued.{Issued}
 
 -- the thread's own state in the units
 abbrev pub own_of : ThreadState → Own
 own_of h =
-    row_of h.thread
+    own_at h.thread
     (record { timers = h.timers; traps = h.traps; sched = h.sched; guard = h.guard })
 
 abbrev pub abstract_thread : ThreadState → Thread

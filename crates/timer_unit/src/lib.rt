@@ -1,10 +1,10 @@
 //! Time, and the timers of the eight hardware threads.
 #![tactic(auto)]
 
+mod clock;
 mod row;
-mod time;
-mod unit;
+mod timers;
 
+pub use clock::{Clock, LAST_TIMED_CYCLE, MOST_CYCLES, moment};
 pub use row::Timer;
-pub use time::{Clock, LAST_TIMED_CYCLE, MOST_CYCLES, moment};
-pub use unit::Timers;
+pub use timers::Timers;

@@ -8,7 +8,7 @@ use Rattle.region_tree.specs.Walk.{CostsOf, IsOwn, Positions}
 use Rattle.slot_scheduler.specs.ModeWord.{mode_of}
 use Rattle.bound_calc.specs.Bound.{course}
 use Rattle.core_model.specs.World.{Registers, Start, world}
-use Rattle.core_model.specs.Cycles.{cycles_to_e}
+use Rattle.core_model.specs.Delays.{cycles_to_e}
 use Rattle.visit_bounds.specs.VisitBound.{Along, EdgeOf}
 use Rattle.visit_bounds.specs.Visits.{Issued, IsVisit, KeepsBounds, first_of, issues_of}
 

@@ -6,7 +6,7 @@ use Rattle.std.specs.Prelude.{◌≡◌, ℕ, ◌+◌, ◌-◌, ◌<◌, ◌≤�
 use Rattle.fp_image.specs.declared.parts.Segment.{Segment}
 use Rattle.fp_setup.specs.Settings.{Settings}
 use Rattle.slot_scheduler.specs.ModeWord.{mode_of}
-use Rattle.core_model.specs.Cycles.{cycles_to_e, cycles_to_w}
+use Rattle.core_model.specs.Delays.{cycles_to_e, cycles_to_w}
 use Rattle.core_model.specs.Phased.{phase_at}
 use Rattle.core_model.specs.Phases.{keeps_scheduling}
 use Rattle.core_model.specs.World.{Start, is_quiet, world}

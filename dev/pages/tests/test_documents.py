@@ -178,7 +178,7 @@ def test_definitions_and_their_files_are_in_the_crates() -> None:
         ("DEFINITIONS.md", "| fp_io: Causes.antt |", "| fp_setup: Causes.antt |", "Causes.antt: no such file"),
         ("DEFINITIONS.md", "`ins w`", "`inst w`", "inst: not declared in Table.antt"),
         ("DEFINITIONS.md", "(Relation.antt)", "(Relations.antt)", "Relations.antt: no such file"),
-        ("DEFINITIONS.md", "| fp_ports: port.rt |", "| fp_ports: lib.rt |", "word_at: not declared in fp_ports: lib.rt"),
+        ("DEFINITIONS.md", "| fp_ports: device.rt |", "| fp_ports: lib.rt |", "word_at: not declared in fp_ports: lib.rt"),
         ("ARCHITECTURE.md", "command_line/specs/Commands.antt", "fp_lex/specs/Commands.antt", "Commands.antt: no such file"),
         ("DEFINITIONS.md", "| `edges_of` |", "| `edges` |", "edges: not declared in region_tree: Edges.antt"),
         ("LIBRARY.md", "commands/src/bound.rt", "commands/src/bounds.rt", "bounds.rt: no such file"),

@@ -12,7 +12,7 @@ use Rattle.fp_setup.specs.Values.{members}
 use Rattle.fp_setup.specs.declared.refusal.Place.{Place}
 use Rattle.fp_setup.specs.Faults.{thread_row}
 use Rattle.fp_setup.specs.FaultOrder.{thread_fault}
-use Rattle.fp_setup.specs.Rows.{row_of}
+use Rattle.fp_setup.specs.Rows.{thread_row_of}
 use Rattle.fp_setup.specs.SetupOfTables.{id_at, modes_of, threads_of, default_thread}
 use Rattle.fp_setup.proofs.RowPut.{tables, tables-more, unnamed-rules, ids-more}
 use Rattle.fp_setup.proofs.RowPut.{found-more, modes-more, threads-more, few-more}
@@ -47,7 +47,7 @@ loop-index-preserved c =
     let inside : i < length items = omega arith in
     let more : tables (take (i + 1) items) ≡ tables (take i items) ++ members (view x) ∷ [] =
     tables-more items i x inside c.index-items-index.is in
-    let same : row ≡ row_of (members (view x)) = c.in_ok-row.ensures.read.1 in
+    let same : row ≡ thread_row_of (members (view x)) = c.in_ok-row.ensures.read.1 in
     let r : Members = members (view x) in
     let id : row.id ≡ id_at r = ap (λ (w : ThreadRow). w.id) same in
     let Fresh : List ℕ → Type 0 = λ ids. list_any (λ n. n == row.id) ids ≡ false in

@@ -1,5 +1,0 @@
-use Rattle.call_bounds.specs.Build.{IsRowTo}
-use Rattle.call_bounds.proofs.call_table.row_of.Given as goal
-
-abbrev pub invariant-loop-index : goal.invariant-loop-index
-invariant-loop-index l = IsRowTo l.code l.draft l.index l.row.items

@@ -1,6 +1,0 @@
--- The time of a cycle.
-use Rattle.std.proofs.Common.{rules}
-use Rattle.timer_unit.proofs.time.Clock.now.Goals as goal
-
-pub returns : goal.returns
-returns c = search rules

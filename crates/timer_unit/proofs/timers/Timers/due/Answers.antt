@@ -1,0 +1,9 @@
+-- A moment that is reached.
+use Rattle.std.proofs.Common.{rules}
+use Rattle.timer_unit.proofs.timers.Timers.due.Goals as goal
+
+pub returns-in-Some : goal.returns-in-Some
+returns-in-Some c = search rules
+
+pub returns-in-None : goal.returns-in-None
+returns-in-None c = search rules

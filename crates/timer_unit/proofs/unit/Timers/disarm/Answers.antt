@@ -1,6 +1,0 @@
--- One row changes.
-use Rattle.std.proofs.Common.{rules}
-use Rattle.timer_unit.proofs.unit.Timers.disarm.Goals as goal
-
-pub returns-clause-disarmed : goal.returns-clause-disarmed
-returns-clause-disarmed c = search rules
