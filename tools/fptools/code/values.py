@@ -16,7 +16,10 @@ from fptools.isa.words import (
     Word,
 )
 
-ADDI = 0
+ADDI, XOR, OR, AND = 0, 4, 6, 7
+COMMUTES = (XOR, OR, AND)
+"""The operations other than an addition whose operands may be exchanged."""
+
 BASE, SUBTRACTS = 0, 32
 """The upper seven bits of an operation between registers: as its bits say, or subtracting, or shifting signs in."""
 
@@ -93,6 +96,10 @@ def _combined(funct3: int, kind: int, one: Value, other: Value) -> Value | None:
     """The result of an operation: of numbers, or of a value and a number that is added or subtracted."""
     if kind not in (BASE, SUBTRACTS):
         return None
+    if other.origin is None and _keeps(funct3, other.offset):
+        return one
+    if one.origin is None and funct3 in COMMUTES and _keeps(funct3, one.offset):
+        return other
     if one.origin is None and other.origin is None:
         return Value(None, signed(_computed(funct3, kind, one.offset, other.offset)))
     if funct3 == ADDI and other.origin is None:
@@ -102,6 +109,12 @@ def _combined(funct3: int, kind: int, one: Value, other: Value) -> Value | None:
     if funct3 == ADDI and kind == BASE and one.origin is None:
         return Value(other.origin, signed(one.offset + other.offset))
     return None
+
+
+def _keeps(funct3: int, number: int) -> bool:
+    """Whether an operation with a number gives the other value as it is, as `or` with 0."""
+    neutral = {ADDI: 0, 1: 0, XOR: 0, 5: 0, OR: 0, AND: -1}.get(funct3)
+    return neutral is not None and signed(number) == neutral
 
 
 def _computed(funct3: int, kind: int, one: int, other: int) -> int:
