@@ -363,9 +363,9 @@ class Periods:
 
     def _assumed(self, pairs: Sequence[Pair], asked: Asked, ns: int | None) -> list[str]:
         """What is assumed of the moments, with the reasons as notes."""
-        unclear = {self._where(it.end): it.moment for it in pairs}
-        whys = [f"{at}: {it.why}" for at, it in unclear.items() if isinstance(it, Unclear)]
-        asked.notes += whys
+        unclear = [(self._where(it.end), it.moment) for it in pairs]
+        whys = [f"{at}: {it.why}" for at, it in unclear if isinstance(it, Unclear)]
+        asked.notes += dict.fromkeys(whys)
         return [f"moments {ns} ns apart"] if whys and ns is not None else []
 
     def _first_assumed(self, loop: WaitingLoop, asked: Asked, text: str) -> list[str]:

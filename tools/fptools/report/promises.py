@@ -23,7 +23,7 @@ CHECKS = (
         "Nothing here is proved of a chip or of the published core. fp_record compares recorded signals with the definition",
     ),
     ("The image is the one that you flash.", "fp_budget compares image and executable."),
-    ("The setup is the one that you use:", "slots, regions, modes, period."),
+    ("The setup is the one that you use:", "slots, regions, modes, period, entries."),
     ("No thread has a permit,", "or you know what it writes, and when."),
     (
         "Inputs are fixed before the run.",

@@ -164,6 +164,23 @@ def test_copies_of_a_wait_that_the_compiler_makes(tool: Tool, tmp_path: Path) ->
     assert status == 0 and "; assumes no trap; the longest of" in text, text
 
 
+@pytest.mark.parametrize("level", ["-O2", "-Og"])
+def test_one_wait_called_twice_with_one_moment_that_is_not_known(
+    tool: Tool, tmp_path: Path, level: str
+) -> None:
+    """What isn't known of one call's moment is assumed, though that of the other is known."""
+    swap = "__attribute__((noinline)) static void swap(uint64_t *x, uint64_t *y)\n"
+    swap += "{\n    uint64_t kept = *x;\n    *x = *y;\n    *y = kept;\n}\n"
+    chosen = "__attribute__((noinline)) static uint64_t chosen(uint64_t x)\n"
+    chosen += (
+        "{\n    uint64_t y[2] = {x, x};\n    y[FP_PORT & 1] += P;\n    return y[FP_PORT & 1];\n}\n"
+    )
+    round_ = "next += P; hold(next); swap(&next, &other); next = chosen(next); hold(next);"
+    body = f"static uint64_t other;\n{swap}{chosen}{BEGIN}    other = next;\n    for (;;) {{ {round_} }}\n}}\n"
+    status, text = Built(tool, tmp_path, body, level).period("--ns", 20000)
+    assert status == 2 or "moments 20000 ns apart" in text, text
+
+
 @pytest.mark.parametrize(
     ("body", "why"),
     [
