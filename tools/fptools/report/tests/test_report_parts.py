@@ -20,7 +20,7 @@ from fptools.program.calls import Flexpret
 from fptools.files.setup import read_setup
 from fptools.view.events import Columns
 from fptools.files.sources import Sources
-from fptools.visits.visits import Executions, Watched
+from fptools.visits.seen import Executions, Watched
 
 
 @pytest.mark.parametrize("name", ["taps16", "callee", "moved", "shapes"])
