@@ -1,9 +1,10 @@
 """Bounds by costs between positions and by all paths, over drawn sections and worked ones."""
 from __future__ import annotations
 
-import random
+from random import Random
 
-import pytest
+from hypothesis import given, settings
+from hypothesis import strategies as st
 
 from model.bounds import Bounds
 from model.commands import answer
@@ -49,9 +50,10 @@ def test_an_empty_walk_costs_nothing() -> None:
     assert bound([jal(0, 0)], [Loop(0, 0, 0)]) == 0
 
 
-@pytest.mark.parametrize("seed", range(60))
-def test_both_ways_agree_on_drawn_sections(seed: int) -> None:
-    section = Section(random.Random(seed), most_rounds=3)
+@settings(max_examples=60)
+@given(st.randoms(use_true_random=False))
+def test_both_ways_agree_on_drawn_sections(chance: Random) -> None:
+    section = Section(chance, most_rounds=3)
     graph = section.graph()
     if graph.refusal() is None:
         cost = Bounds(graph, section.slots, section.thread).largest_cost()

@@ -14,7 +14,7 @@ FILES = [
     for name in ("tools", "dev", "model", "examples", "rtl")
     for it in sorted((TOP / name).rglob("*.py"))
 ]
-LONG = {"tools/fptools/visits/visits.py", "dev/fuzz/hostile.py"}
+LONG = {"dev/fuzz/hostile.py"}
 """Files that are longer. That of dev is a table of inputs."""
 
 LONG_FUNCTIONS = {"tools/fptools/visits/tests/test_meters.py: executions"}

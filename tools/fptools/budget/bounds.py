@@ -11,7 +11,7 @@ from fptools.files.elf import Function
 from fptools.program.calls import Answer, Flexpret
 from fptools.code.section import walk
 from fptools.limits import DATA_START
-from fptools.visits.visits import Watched
+from fptools.visits.seen import Watched
 from fptools.isa.words import Word
 
 

@@ -21,7 +21,7 @@ from fptools.period.runs import PeriodRuns
 from fptools.program.calls import Flexpret
 from fptools.code.section import walk_all
 from fptools.files.setup import LoopTable, Setup
-from fptools.visits.visits import Executions, Watched
+from fptools.visits.seen import Executions, Watched
 
 NAME = "fp_budget"
 

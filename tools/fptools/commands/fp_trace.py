@@ -24,7 +24,7 @@ from fptools.files.setup import Setup
 from fptools.view.events import CSV, JSON, TEXT, Columns, Filter, Form, Wanted
 from fptools.files.sources import Sources
 from fptools.isa.turns import Turns, turns_of
-from fptools.visits.visits import WaitJudge
+from fptools.visits.waits import WaitJudge
 
 NAME = "fp_trace"
 BROKEN_TRACE = 3
@@ -167,7 +167,7 @@ class Shower:
     def _shown(self, block: Block, judge: WaitJudge) -> str:
         """The lines of a block."""
         waits = list(judge.judged(block))
-        late = {it.index: it.late(self._period) for it in waits if it.is_overrun(self._period)}
+        late = {it.place: it.late(self._period) for it in waits if it.is_overrun(self._period)}
         indexes = self._filter.indexes(block, waits, self._period)
         lines = self._form.lines(block, indexes, late)
         return "\n".join(lines) + "\n" if lines else ""

@@ -67,7 +67,7 @@ from fptools.budget.reports import data_of
 from fptools.files.setup import Setup
 from fptools.files.sources import Sources
 from fptools.limits import MOST_CYCLES
-from fptools.visits.visits import Watched
+from fptools.visits.seen import Watched
 from fptools.untyped import Values
 
 NAME = "fp_visits"

@@ -7,7 +7,7 @@
             print(event.cycle, hex(event.pc), event.value)
 
 At a line that is no event `read_trace` raises `BrokenTrace`; it has given all events before it. If few
-events of a long trace are wanted, `fptools.files.trace_blocks` and `fptools.visits.visits` are ten times as fast."""
+events of a long trace are wanted, `fptools.files.trace_blocks` and `fptools.visits.meters` are ten times as fast."""
 
 import re
 from dataclasses import dataclass

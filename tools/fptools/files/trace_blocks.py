@@ -215,13 +215,11 @@ class TraceReader:
     def _are_sound(self, lines: list[bytes]) -> bool:
         """Whether lengths are those of events, and cycles rise. Cycles are right-aligned, so their texts
         compare as the numbers do."""
-        cycles = list(map(itemgetter(CYCLE), lines))
-        is_after = self._before is None or self._before[CYCLE] < cycles[0]
-        return (
-            is_after
-            and LENGTHS.issuperset(map(len, lines))
-            and all(map(lt, cycles, islice(cycles, 1, None)))
-        )
+        if self._before is not None and self._before >= lines[0][CYCLE]:
+            return False
+        # A line is greater than its own cycle, so these are equal cycles too.
+        rises = map(lt, lines, map(itemgetter(CYCLE), islice(lines, 1, None)))
+        return LENGTHS.issuperset({*map(len, lines)}) and all(rises)
 
     def _narrowed(self, lines: list[bytes], chars: list[str], data: bytes) -> Iterator[Block]:
         """The block of the selected lines, if it isn't empty."""
@@ -289,10 +287,12 @@ def _first_fault(lines: list[bytes], before: bytes | None) -> _Fault | None:
 def _indexes_of_traps(data: bytes) -> list[int]:
     """Which lines of a block are traps."""
     found, index, counted = [], 0, 0
-    place = data.find(TRAP)
+    sought = TRAP.rstrip()  # bytes that end with a rare one are found fast
+    place = data.find(sought)
     while place >= 0:
-        index += data.count(b"\n", counted, place)
-        counted = place
-        found.append(index)
-        place = data.find(TRAP, place + 1)
+        if data.startswith(TRAP, place):
+            index += data.count(b"\n", counted, place)
+            counted = place
+            found.append(index)
+        place = data.find(sought, place + 1)
     return found

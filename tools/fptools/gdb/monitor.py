@@ -14,7 +14,7 @@ from fptools.gdb.machine import Machine
 from fptools.gdb.state import SHOWN_LATER
 from fptools.program.refusals import FAULTS, Context, explain
 from fptools.code.section import walk
-from fptools.visits.visits import Watched
+from fptools.visits.seen import Watched
 
 NO_TABLE = "UnboundedBackEdge"
 CYCLE = re.compile("[0-9]{1,20}")

@@ -1,6 +1,7 @@
 """When a hard thread issues: its turns in the frame, and the lag of each instruction."""
 
 from dataclasses import dataclass
+from functools import cached_property, lru_cache
 
 from fptools.files.setup import Setup
 from fptools.isa.words import OPCODE_BRANCH, OPCODE_TIMING, Flow, Word
@@ -25,7 +26,13 @@ class Turns:
 
     def next(self, cycle: int) -> int:
         """The first turn in or after a cycle."""
-        return next(at for at in range(cycle, cycle + self.length) if self.owns(at))
+        return cycle + self._gaps[cycle % self.length]
+
+    @cached_property
+    def _gaps(self) -> list[int]:
+        """The cycles from each position to the thread's next one."""
+        length = range(self.length)
+        return [next(gap for gap in length if self.owns(at + gap)) for at in length]
 
 
 def turns_of(setup: Setup, thread: int) -> Turns | None:
@@ -59,6 +66,7 @@ def lag(word: Word, to: int, traps: bool) -> int:
     return LATE_LAG if is_late else PLAIN_LAG
 
 
+@lru_cache(maxsize=1 << 14)
 def is_delay(bits: int) -> bool:
     """Whether a word is a DU, which shows no line while it spins."""
     word = Word(0, bits)

@@ -14,7 +14,9 @@ from fptools.files.trace import CAUSES
 from fptools.files.image import read_image
 from fptools.files.trace_blocks import PC, Block, BrokenTrace, Progress, TraceReader
 from fptools.isa.turns import turns_of
-from fptools.visits.visits import Known, TrapMeter, WaitJudge, measure
+from fptools.visits.meters import Known, measure
+from fptools.visits.traps import TrapMeter
+from fptools.visits.waits import WaitJudge
 from fptools.isa.words import Flow, Word
 
 Waits = Sequence[tuple[int, ...]]
@@ -78,7 +80,7 @@ class PeriodMeter:
 
     def take(self, block: Block) -> None:
         for it in self.judge.judged(block):
-            newest = self.calls.before(block, it.index)
+            newest = self.calls.before(block, it.place)
             for waits, seen in zip(self.loops, self.seen):
                 is_own = any(wait[-1] == it.pc and newest(wait[:-1]) for wait in waits)
                 if is_own and not it.is_delay and it.moment is not None:

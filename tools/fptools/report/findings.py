@@ -20,7 +20,7 @@ from fptools.files.setup import Setup
 from fptools.view.events import Columns
 from fptools.files.sources import Sources
 from fptools.stack.stacks import Stack
-from fptools.visits.visits import Executions
+from fptools.visits.seen import Executions
 from fptools.budget.whole import ThreadAnswer, Whole
 
 NAME = "fp_report"

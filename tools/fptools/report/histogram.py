@@ -2,7 +2,7 @@
 
 from dataclasses import dataclass
 
-from fptools.visits.visits import Executions, Tally
+from fptools.visits.seen import Executions, Tally
 
 MOST_BINS = 40
 FEWEST_VALUES = 12  # cycles that a scale has at least, so that a bar isn't the whole picture

@@ -13,7 +13,7 @@ from fptools.files.trace import Event, event_of
 from fptools.files.trace_blocks import EFFECT, Block, Progress, TraceReader
 from fptools.isa.turns import Turns, is_delay, turns_of
 from fptools.limits import MOST_CYCLES
-from fptools.visits.visits import first_try
+from fptools.visits.meters import first_try
 
 STAGES = "FDEMW"
 RETIRED = len(STAGES) - 1  # cycles from an issue to the one in which its line is written

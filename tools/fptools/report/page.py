@@ -27,7 +27,7 @@ from fptools.visits.observed import Kind, silence_of
 from fptools.visits.text import Text, ratio, silence_text
 from fptools.budget.reports import without_controls
 from fptools.files.trace import CAUSES
-from fptools.visits.visits import Rounds
+from fptools.visits.seen import Rounds
 from fptools.budget.whole_text import counted, load_text, period_text, stack_text
 
 TEMPLATES = Path(__file__).parent / "templates"

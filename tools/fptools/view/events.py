@@ -21,7 +21,7 @@ from fptools.isa.disassembly import Disassembler
 from fptools.files.elf import CODE_END, Program
 from fptools.files.sources import Sources
 from fptools.files.trace import CAUSES, Event, event_of
-from fptools.visits.visits import JudgedWait
+from fptools.visits.waits import JudgedWait
 from fptools.isa.words import Word
 
 
@@ -69,9 +69,9 @@ class Filter:
         if self._traps:
             found.update(block.traps)
         if self._waits:
-            found.update(it.index for it in waits)
+            found.update(it.place for it in waits)
         elif self._overruns:
-            found.update(it.index for it in waits if it.is_overrun(period))
+            found.update(it.place for it in waits if it.is_overrun(period))
         for text in self._stores:
             found.update(_lines_with(block.data, text))
         return sorted(found)

@@ -22,10 +22,13 @@ from fptools.code.section import walk
 from fptools.files.setup import LoopTable, Setup
 from fptools.isa.turns import Turns, is_delay, turns_of
 
-from fptools.visits.visits import (
-    MOST_KEPT, CallMeter, Executions, LoopMeter, Lost, Meter, OpenTrapMeter, Rounds, SectionMeter, TrapAt,
-    Trapped, TrapMeter, Wait, WaitJudge, WaitMeter, Watched, earliest_issue, measure,
-)  # fmt: skip
+from fptools.visits.functions import CallMeter
+from fptools.visits.loops import LoopMeter
+from fptools.visits.meters import Meter, earliest_issue, measure
+from fptools.visits.sections import SectionMeter
+from fptools.visits.seen import Executions, Lost, MOST_KEPT, Rounds, TrapAt, Trapped, Wait, Watched
+from fptools.visits.traps import OpenTrapMeter, TrapMeter
+from fptools.visits.waits import WaitJudge, WaitMeter
 
 PIPE_BYTES = 1 << 20
 DEFAULT_PERIOD = 10  # nanoseconds

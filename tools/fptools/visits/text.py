@@ -9,7 +9,7 @@ from fptools.visits.claims import Passes
 from fptools.files.elf import Program
 from fptools.visits.observed import Break, Doubt, Kind, Observation, Why, silence_of, spelled_loop
 from fptools.files.trace import CAUSES
-from fptools.visits.visits import Executions, Rounds, Spread, TrapAt, Wait
+from fptools.visits.seen import Executions, Rounds, Spread, TrapAt, Wait
 
 NO_NUMBER = "-"
 NAME_WIDTH, EXECUTION_WIDTHS, WAIT_WIDTHS = (

@@ -4,7 +4,9 @@ from __future__ import annotations
 import os
 import subprocess
 from pathlib import Path
-from random import Random
+
+from hypothesis import given, settings
+from hypothesis import strategies as st
 
 import pytest
 from fptools.testing.common import TOP, Tool
@@ -150,26 +152,36 @@ def test_an_executable_in_place_of_an_image_is_told(tool: Tool) -> None:
     assert ran.stderr == f"fp_disasm: {said}\n"
 
 
-def drawn(seed: int) -> dict[int, int]:
-    """Words of code and data: instructions with other fields, and any words."""
-    draws = Random(seed)
-    words = {}
-    for at in [*range(0, 400, 4), *range(0x2000_0000, 0x2000_0100, 4)]:
-        if draws.random() < 0.1:
-            continue
-        bits = draws.randrange(1 << 32)
-        opcode = draws.choice(
-            (0x37, 0x17, 0x6F, 0x67, 0x63, 0x03, 0x23, 0x13, 0x33, 0x0F, 0x73, 0x0B)
-        )
-        words[at] = draws.choice(
-            (bits, bits & ~0x7F | opcode, bits & 0x01FFFF80 | opcode, 0, 0x0FF0000F, 0x0000100F)
-        )
-    return words
+HALVES = st.integers(0, 0xFFFF)
+OPCODES = st.sampled_from((0x37, 0x17, 0x6F, 0x67, 0x63, 0x03, 0x23, 0x13, 0x33, 0x0F, 0x73, 0x0B))
+FIXED = st.sampled_from((0, 0x0FF0000F, 0x0000100F))
 
 
-@pytest.mark.parametrize("seed", range(12))
-def test_drawn_words_come_back(seed: int) -> None:
-    words = drawn(seed)
+@st.composite
+def any_words(draw: st.DrawFn) -> int:
+    """Each word as often as any other."""
+    return draw(HALVES) << 16 | draw(HALVES)
+
+
+@st.composite
+def instructions(draw: st.DrawFn) -> int:
+    """A word with an opcode of the core; funct7 is 0 in half of them."""
+    return draw(any_words()) & draw(st.sampled_from((~0x7F, 0x01FFFF80))) | draw(OPCODES)
+
+
+WORDS = st.one_of(any_words(), instructions(), instructions(), FIXED)
+
+
+@st.composite
+def drawn(draw: st.DrawFn) -> dict[int, int]:
+    """Words of code and data: instructions with other fields, and any words. A tenth is missing."""
+    places = [*range(0, 400, 4), *range(0x2000_0000, 0x2000_0100, 4)]
+    return {at: draw(WORDS) for at in places if draw(st.integers(0, 9)) < 9}
+
+
+@settings(max_examples=12)
+@given(drawn())
+def test_drawn_words_come_back(words: dict[int, int]) -> None:
     names = {at: f"name.{at}" for at in words if at % 12 == 0} | {
         4: "$odd",
         8: "twice",
@@ -182,14 +194,13 @@ def test_drawn_words_come_back(seed: int) -> None:
     assert words_of(assembled("\n".join(disassembled(words, names)))) == words
 
 
-def test_texts_are_those_of_the_assembler() -> None:
-    draws = Random(7)
-    for _ in range(3000):
-        bits = draws.randrange(1 << 32)
-        ins = decode(bits)
-        if ins.kind != "Illegal":
-            assert encode(ins) == bits
-            assert words_of(assembled(f".org 0x2000\n{text_of(0x2000, bits)}\n")) == {0x2000: bits}
+@settings(max_examples=600)
+@given(st.one_of(any_words(), instructions()))
+def test_texts_are_those_of_the_assembler(bits: int) -> None:
+    ins = decode(bits)
+    if ins.kind != "Illegal":
+        assert encode(ins) == bits
+        assert words_of(assembled(f".org 0x2000\n{text_of(0x2000, bits)}\n")) == {0x2000: bits}
 
 
 def test_routines_of_a_section(tool: Tool, tmp_path: Path) -> None:

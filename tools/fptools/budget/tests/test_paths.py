@@ -2,12 +2,14 @@
 from __future__ import annotations
 
 import json
-import random
 import subprocess
 from collections import Counter
 from pathlib import Path
+from random import Random
 
-import pytest
+from hypothesis import HealthCheck, given, settings
+from hypothesis import strategies as st
+
 from fptools.testing.common import Tool
 from fptools.files.elf import Function, Program
 from fptools.files.image import read_image
@@ -41,8 +43,8 @@ class Made:
     """A random program: a section from `begin` to `done` with loops, branches and calls of two
     functions."""
 
-    def __init__(self, seed: int) -> None:
-        self.random = random.Random(seed)
+    def __init__(self, random: Random) -> None:
+        self.random = random
         self.lines: list[str] = ["lui s0, 0x20000", "begin: nop"]
         self.loops: list[tuple[str, str, int]] = []
         self.labels = 0
@@ -123,10 +125,14 @@ def search_of(setup: Path, at: dict[str, int]) -> Search:
     return Search(read, 0, words, walk_all(words, at["begin"], at["done"], functions))
 
 
-@pytest.mark.parametrize("seed", range(60))
-def test_a_random_program_has_a_path_of_its_bound(flexpret: str, tmp_path: Path, seed: int) -> None:
-    made = Made(seed)
-    setup, at = set_up(flexpret, tmp_path, made, FRAMES[seed % len(FRAMES)]), labels_of(made.source)
+# Each example writes all files again.
+@settings(max_examples=60, suppress_health_check=list(HealthCheck))
+@given(random=st.randoms(use_true_random=False), frame=st.sampled_from(FRAMES))
+def test_a_random_program_has_a_path_of_its_bound(
+    flexpret: str, tmp_path: Path, random: Random, frame: str
+) -> None:
+    made = Made(random)
+    setup, at = set_up(flexpret, tmp_path, made, frame), labels_of(made.source)
     listed = tmp_path / "routines"
     listed.write_text("".join(f"{at[it]:08x} {at['end_' + it]:08x}\n" for it in ("f", "g")))
     words = [flexpret, "calls", str(setup), "--thread", "0", "--routines", str(listed)]
@@ -166,7 +172,7 @@ def look_at_loop(search: Search, loop: LoopTable, steps: Counter[Step]) -> None:
 
 
 def test_a_path_that_costs_otherwise_is_not_shown(flexpret: str, tmp_path: Path) -> None:
-    made = Made(1)
+    made = Made(Random(1))
     search = search_of(set_up(flexpret, tmp_path, made, FRAMES[0]), labels_of(made.source))
     facts = facts_of(search, search.longest.cycles + 1, Program(None), Sources(None))
     (line,) = path_text(facts)

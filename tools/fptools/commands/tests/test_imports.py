@@ -15,7 +15,7 @@ HEAVY = {"scipy", "networkx", "jinja2", "elftools", "difflib", "xml"}
 LATE = {
     "fptools.budget.runs",
     "fptools.period.periods",
-    "fptools.visits.visits",
+    "fptools.visits.meters",
     "fptools.budget.reports",
 }
 IMPORTED = re.compile(r"^import time: .*\| +(\S+)$", re.MULTILINE)

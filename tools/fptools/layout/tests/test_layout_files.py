@@ -2,13 +2,14 @@
 from __future__ import annotations
 
 import os
-import random
 import resource
 import subprocess
 import sys
 from pathlib import Path
 
 import pytest
+from hypothesis import given, settings
+from hypothesis import strategies as st
 from fptools.testing.common import TOOLS, Tool
 from fptools.layout.assembly import Assembly, Fault, statements
 from fptools.layout.blocks import Block, Branch, body_of
@@ -220,27 +221,26 @@ def test_usage(tool: Tool) -> None:
         assert tool("fp_layout", *words).returncode == 2
 
 
-def garbled(text: str, chance: random.Random) -> str:
+@st.composite
+def garbled(draw: st.DrawFn, text: str) -> str:
     """A text with lines that are cut, moved, doubled, dropped or misspelt."""
     lines = text.split("\n")
-    for _ in range(chance.randint(1, 5)):
-        at, other = chance.randrange(len(lines)), chance.randrange(len(lines))
-        cut = chance.randrange(len(lines[at]) + 1)
-        kind = chance.randrange(5)
-        if kind == 0:
+    for _ in range(draw(st.integers(1, 5))):
+        at = draw(st.integers(0, len(lines) - 1))
+        other = draw(st.integers(0, len(lines) - 1))
+        cut = draw(st.integers(0, len(lines[at])))
+        kind = draw(st.sampled_from(("cut", "moved", "doubled", "dropped", "misspelt")))
+        if kind == "cut":
             lines[at] = lines[at][:cut]
-        elif kind == 1:
+        elif kind == "moved":
             lines[at], lines[other] = lines[other], lines[at]
-        elif kind == 2:
+        elif kind == "doubled":
             lines.insert(at, lines[other])
-        elif kind == 3:
+        elif kind == "dropped":
             del lines[at : at + (1 if len(lines) > 1 else 0)]
         else:
-            lines[at] = (
-                lines[at][:cut]
-                + chance.choice([",", ";", "#", ":", '"', "(", "1f", "x0", "/*", "view"])
-                + lines[at][cut:]
-            )
+            pieces = (",", ";", "#", ":", '"', "(", "1f", "x0", "/*", "view")
+            lines[at] = lines[at][:cut] + draw(st.sampled_from(pieces)) + lines[at][cut:]
     return "\n".join(lines)
 
 
@@ -256,19 +256,21 @@ def test_what_is_garbled_is_laid_out_or_refused() -> None:
         + "\tret\n\t.cfi_endproc\n"
     )
     outcomes = set()
-    for seed in range(400):
-        text = garbled(
-            HEAD + function(code) + function(LOOP_AT_END, "g").replace(".L", ".L9"),
-            random.Random(seed),
-        )
+    whole = HEAD + function(code) + function(LOOP_AT_END, "g").replace(".L", ".L9")
+
+    @settings(max_examples=400)
+    @given(garbled(whole), st.sampled_from((0, 4)))
+    def look_at(text: str, rotate: int) -> None:
         try:
-            once = lay_out(Assembly(text), Options(rotate=seed % 2 * 4))
+            once = lay_out(Assembly(text), Options(rotate=rotate))
             outcomes.add("stays" if once.kept else "laid out")
             if not once.kept:
-                assert lay_out(Assembly(once.text), Options(rotate=seed % 2 * 4)).text == once.text
+                assert lay_out(Assembly(once.text), Options(rotate=rotate)).text == once.text
         except Fault as fault:
             assert "fault of fp_layout" not in fault.why
             outcomes.add("refused")
+
+    look_at()
     assert outcomes == {"laid out", "stays", "refused"}
 
 

@@ -1,12 +1,14 @@
 """The parts of fp_report's page: cycles by source line, histograms, numbers with units."""
 from __future__ import annotations
 
-import random
 import re
 from pathlib import Path
 from typing import Any
 
 import pytest
+from hypothesis import given, settings
+from hypothesis import strategies as st
+
 from fptools.testing.modelled import HOLDS, held, program
 
 pytest.importorskip("jinja2", reason="jinja2 isn't installed (Debian: python3-jinja2)")
@@ -20,7 +22,7 @@ from fptools.program.calls import Flexpret
 from fptools.files.setup import read_setup
 from fptools.view.events import Columns
 from fptools.files.sources import Sources
-from fptools.visits.visits import Executions, Watched
+from fptools.visits.seen import Executions, Watched
 
 
 @pytest.mark.parametrize("name", ["taps16", "callee", "moved", "shapes"])
@@ -49,22 +51,26 @@ def tally(
     return seen
 
 
-@pytest.mark.parametrize("seed", range(40))
-def test_a_histogram_has_each_execution_once(seed: int) -> None:
-    chance = random.Random(seed)
-    low, spread = chance.choice([0, 8, 344, 10**6]), chance.choice([1, 5, 40, 41, 1000, 10**7])
-    numbers = {
-        low + chance.randrange(spread): chance.randint(1, 1000)
-        for _ in range(chance.randint(1, 60))
-    }
+@st.composite
+def drawn_numbers(draw: st.DrawFn) -> dict[int, int]:
+    """How often executions took some numbers of cycles."""
+    low = draw(st.sampled_from([0, 8, 344, 10**6]))
+    spread = draw(st.sampled_from([1, 5, 40, 41, 1000, 10**7]))
+    cycles = st.integers(low, low + spread - 1)
+    return draw(st.dictionaries(cycles, st.integers(1, 1000), min_size=1, max_size=60))
+
+
+@settings(max_examples=40)
+@given(drawn_numbers(), st.data())
+def test_a_histogram_has_each_execution_once(numbers: dict[int, int], data: st.DataObject) -> None:
     most = max(numbers)
     seen = tally(
         numbers,
-        chance.choice([None, most, most + 3, 9 * most + 90]),
-        chance.choice([None, most // 2, most + 50]),
+        data.draw(st.sampled_from([None, most, most + 3, 9 * most + 90])),
+        data.draw(st.sampled_from([None, most // 2, most + 50])),
     )
-    for cycles in chance.sample(sorted(numbers), min(3, len(numbers))):
-        seen.interrupted.add(cycles + chance.randrange(5), 0)
+    for cycles in data.draw(st.permutations(sorted(numbers)))[:3]:
+        seen.interrupted.add(cycles + data.draw(st.integers(0, 4)), 0)
     found = histogram_of(seen)
     assert found is not None
     counted = sum(int(it.text.split(": ")[1].split(" ")[0].replace(",", "")) for it in found.bars)

@@ -13,7 +13,7 @@ from fptools.files.trace_blocks import TraceReader
 from fptools.visits.observed import Question, observe
 from fptools.files.setup import LoopTable, read_setup
 from fptools.isa.turns import turns_of
-from fptools.visits.visits import Watched
+from fptools.visits.seen import Watched
 from fptools.testing.modelled import Issue, Made, issues_of, make, trace_of
 
 MRET, RETURN = 0x30200073, 0x00008067
