@@ -81,7 +81,7 @@ class Watched:
     routines: tuple[
         tuple[int, int], ...
     ] = ()  # that it calls: the first address, and the one behind the last
-    exits: frozenset[int] = frozenset()  # other addresses at which it may end
+    exits: frozenset[int] = frozenset()  # other addresses where it may end
     bound: int | None = None  # cycles
     budget: int | None = None  # cycles
     doubt: str = ""  # why there is no bound
